@@ -1,0 +1,170 @@
+// A store of tables that saves by copying, in words that the caller lends.
+ghost use mathlib.Core.Path.{_≡_};
+ghost use mathlib.Core.Bool.{Bool, true, false, cond};
+ghost use mathlib.Core.List.{List, [], _∷_};
+ghost use Prim.Native.Nat.{ℕ, _+_, _*_, _<_, _≤_};
+ghost use lib.Dec.{eqb, ltb};
+ghost use lib.ListN.{length, take, drop};
+ghost use denote.Ref.{now as held, name};
+ghost use Rattle.tables.specs.Tables.{sizeOf, kept};
+ghost use Rattle.copying.specs.Memory.{need, fits, answerCheck, rowIn, domainIn, tableIn, savedIn, written, meet};
+ghost use Rattle.copying.specs.Facts.{table-shaped, saved-shaped, saved-within};
+use tables::Domains;
+use tables::Kept;
+use tables::Levels;
+use tables::Row;
+use tables::StoreFault;
+use tables::rows;
+
+// The table in the first 16 * n words, and the saved ones behind it, the oldest first.
+#[derive(Drop)]
+pub struct Copying<'a> {
+    words: &'a mut [u64],
+    n: usize,
+    most: usize,
+    depth: usize,
+    ghost room: { need n most ≤ length (held words) },
+    ghost few: { n ≤ 256 },
+    ghost some: { 1 ≤ most },
+    ghost low: { most ≤ 16 },
+    ghost within: { depth ≤ most },
+}
+
+impl<'a> Copying<'a> {
+    // Whether a store of n variables and at most `most` saved tables can be made in these words.
+    pub fn check(words: &[u64], n: usize, most: usize) -> Result<(), StoreFault>
+        ensures { λ r. ⌜ r ≡ answerCheck n most (length (now (words .entry))) ⌝ }
+    {
+        if n < 1 || n > 256 || most < 1 || most > 16 || words.len() < 16 * (n * (most + 1)) {
+            return Err(StoreFault::Limits);
+        }
+        Ok(())
+    }
+
+    // A store over words that hold the starting table; where the check refuses, one of no variable.
+    pub fn new(words: &'a mut [u64], n: usize, most: usize) -> Copying<'a>
+        ensures same { λ r. ⌜ now (r .words) ≡ now (words .entry) ⌝ }
+        ensures lent { λ r. ⌜ name (r .words) ≡ name (words .entry) ⌝ }
+        ensures vars { λ r. ⌜ r .n ≡ cond (fits n most (length (now (words .entry)))) n 0 ⌝ }
+        ensures most { λ r. ⌜ r .most ≡ cond (fits n most (length (now (words .entry)))) most 1 ⌝ }
+        ensures none { λ r. ⌜ r .depth ≡ 0 ⌝ }
+    {
+        match Copying::check(words, n, most) {
+            Ok(()) => Copying { words, n, most, depth: 0 },
+            Err(_) => Copying { words, n: 0, most: 1, depth: 0 },
+        }
+    }
+
+    // The words of variable x, none where x is not below n.
+    fn row(&self, x: usize) -> &[u64]
+        ensures { λ r. ⌜ now r ≡ domainIn (now (self .entry) .n) x (now (now (self .entry) .words)) ⌝ }
+    {
+        if x >= self.n {
+            return &self.words[0..0];
+        }
+        let at = 16 * x;
+        &self.words[at..at + 16]
+    }
+}
+
+pub impl<'a> Domains for Copying<'a> as CopyingDomains {
+    ghost table = { λ s. tableIn (s .n) 0 (held (s .words)) };
+
+    ghost vars = { λ s. s .n };
+
+    ghost saved = { λ s. savedIn (s .n) (s .depth) (held (s .words)) };
+
+    ghost most = { λ s. s .most };
+
+    ghost anchors = { λ s. name (s .words) ∷ [] };
+
+    ghost spare = { λ s. drop (need (s .n) (s .most)) (held (s .words)) };
+
+    ghost shaped = { λ s. table-shaped (s .n) 0 (held (s .words)) };
+
+    ghost shapes = { λ s. saved-shaped (s .n) (s .depth) (held (s .words)) };
+
+    ghost few = { λ s. s .few };
+
+    ghost deep = { λ s. (s .some, s .low) };
+
+    ghost within = { λ s. saved-within (s .n) (s .depth) (s .most) (held (s .words)) (s .within) };
+
+    fn variables(&self) -> usize {
+        self.n
+    }
+
+    fn has(&self, x: usize, v: i32) -> bool {
+        rows::has(self.row(x), v)
+    }
+
+    fn size(&self, x: usize) -> usize {
+        rows::size(self.row(x))
+    }
+
+    fn next(&self, x: usize, from: i32) -> Option<i32> {
+        rows::next(self.row(x), from)
+    }
+
+    fn last(&self, x: usize, upto: i32) -> Option<i32> {
+        rows::last(self.row(x), upto)
+    }
+
+    // The words of variable x are met with the row's, and no other word is written.
+    fn keep(&mut self, x: usize, row: Row) -> Kept
+        ensures after { λ _. ⌜ tableIn (now (self .exit) .n) 0 (now (now (self .exit) .words)) ≡ kept x row (tableIn (now (self .entry) .n) 0 (now (now (self .entry) .words))) ⌝ }
+        ensures smaller { λ r. ⌜ r .smaller ≡ ltb (sizeOf (tableIn (now (self .exit) .n) 0 (now (now (self .exit) .words)) x)) (sizeOf (tableIn (now (self .entry) .n) 0 (now (now (self .entry) .words)) x)) ⌝ }
+        ensures empty { λ r. ⌜ r .empty ≡ eqb (sizeOf (tableIn (now (self .exit) .n) 0 (now (now (self .exit) .words)) x)) 0 ⌝ }
+        ensures same_saved { λ _. ⌜ savedIn (now (self .exit) .n) (now (self .exit) .depth) (now (now (self .exit) .words)) ≡ savedIn (now (self .entry) .n) (now (self .entry) .depth) (now (now (self .entry) .words)) ⌝ }
+        ensures same_vars { λ _. ⌜ now (self .exit) .n ≡ now (self .entry) .n ⌝ }
+        ensures same_most { λ _. ⌜ now (self .exit) .most ≡ now (self .entry) .most ⌝ }
+        ensures same_anchors { λ _. ⌜ name (now (self .exit) .words) ∷ [] ≡ name (now (self .entry) .words) ∷ [] ⌝ }
+        ensures same_spare { λ _. ⌜ drop (need (now (self .exit) .n) (now (self .exit) .most)) (now (now (self .exit) .words)) ≡ drop (need (now (self .entry) .n) (now (self .entry) .most)) (now (now (self .entry) .words)) ⌝ }
+        ensures outside { λ _. ⌜ (now (self .entry) .n ≤ x → now (self .exit) ≡ now (self .entry)) ⌝ }
+        ensures memory { λ _. ⌜ now (now (self .exit) .words) ≡ cond (ltb x (now (self .entry) .n)) (written (16 * x) (meet (rowIn (16 * x) (now (now (self .entry) .words))) row) (now (now (self .entry) .words))) (now (now (self .entry) .words)) ⌝ }
+        ensures same_depth { λ _. ⌜ now (self .exit) .depth ≡ now (self .entry) .depth ⌝ }
+    {
+        if x >= self.n {
+            return Kept { smaller: false, empty: true };
+        }
+        let at = 16 * x;
+        let mut smaller = false;
+        let mut empty = true;
+        for k in 0..16usize {
+            let before = self.words[at + k];
+            let after = before & row[k];
+            self.words[at + k] = after;
+            smaller |= after != before;
+            empty &= after == 0;
+        }
+        Kept { smaller, empty }
+    }
+}
+
+pub impl<'a> Levels for Copying<'a> as CopyingLevels {
+    fn save(&mut self) -> Result<(), StoreFault> {
+        if self.depth >= self.most {
+            return Err(StoreFault::Full);
+        }
+        let len = 16 * self.n;
+        let to = len * (self.depth + 1);
+        for k in 0..len {
+            self.words[to + k] = self.words[k];
+        }
+        self.depth += 1;
+        Ok(())
+    }
+
+    fn restore(&mut self) -> Result<(), StoreFault> {
+        if self.depth == 0 {
+            return Err(StoreFault::NoSave);
+        }
+        let len = 16 * self.n;
+        let from = len * self.depth;
+        for k in 0..len {
+            self.words[k] = self.words[from + k];
+        }
+        self.depth -= 1;
+        Ok(())
+    }
+}

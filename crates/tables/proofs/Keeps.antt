@@ -1,0 +1,37 @@
+-- What a keep does to a table.
+use mathlib.Core.Path.{_≡_, refl, sym, ap, fun-ext, subst, _∙_}
+use mathlib.Core.Bool.{Bool, true, false, not, _&&_, _||_}
+use mathlib.Core.List.{List}
+use mathlib.Core.Logic.{⊎-elim}
+use Prim.Native.Nat.{ℕ, _≤_, _<_}
+use native.Mathlib.Omega.{arith}
+use lib.Dec.{eqb}
+use lib.IntN.{ℤ}
+use Rattle.std.proofs.shelf.Tests.{cases-eq, cases-bool, eq-eqb, ne-eqb, both-ways}
+use Rattle.tables.specs.Rows.{inRow}
+use Rattle.tables.specs.Tables.{Table, Shaped, kept}
+
+and-true : (b : Bool) → (b && true) ≡ b
+and-true true = refl
+and-true false = refl
+
+-- the variable's own domain
+pub kept-here : (x : ℕ) (row : List ℕ) (t : Table) (y : ℕ) (v : ℤ) → y ≡ x → kept x row t y v ≡ (t y v && inRow row v)
+kept-here x row t y v e = ap (λ (b : Bool). t y v && (not b || inRow row v)) (eq-eqb y x e)
+
+-- every other one
+pub kept-beside : (x : ℕ) (row : List ℕ) (t : Table) (y : ℕ) (v : ℤ) → (y ≡ x → ⊥) → kept x row t y v ≡ t y v
+kept-beside x row t y v ne = ap (λ (b : Bool). t y v && (not b || inRow row v)) (ne-eqb y x ne) ∙ and-true (t y v)
+
+-- a shaped table has nothing outside
+pub nothing-outside : (n : ℕ) (t : Table) → Shaped n t → (x : ℕ) → n ≤ x → (v : ℤ) → t x v ≡ false
+nothing-outside n t shaped x h v = ⊎-elim (λ yes. absurd (omega (arith, shaped x v yes .0))) (λ no. no) (cases-bool (t x v))
+
+-- a keep outside changes nothing
+pub kept-outside : (n x : ℕ) (row : List ℕ) (t : Table) → Shaped n t → n ≤ x → t ≡ kept x row t
+kept-outside n x row t shaped h =
+    fun-ext (λ y. fun-ext (λ v.
+        sym (⊎-elim
+        (λ (e : y ≡ x). let none : t y v ≡ false = nothing-outside n t shaped y (omega arith) v in ap (λ (b : Bool). b && (not (eqb y x) || inRow row v)) none ∙ sym none)
+        (λ ne. kept-beside x row t y v ne)
+        (cases-eq y x))))
