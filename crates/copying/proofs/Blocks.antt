@@ -17,7 +17,7 @@ use Rattle.tables.specs.Values.{isValue, place}
 use Rattle.tables.specs.Rows.{bit, atPlace, inRow}
 use Rattle.tables.specs.Tables.{Table, Domain, kept, Shaped, AllShaped}
 use Rattle.tables.proofs.Places.{at-past, place-below}
-use Rattle.copying.specs.Memory.{need, rowIn, domainIn, tableIn, savedIn, written, meet}
+use Rattle.copying.specs.Memory.{need, rowIn, domainIn, tableIn, savedIn, written, meet, frameOf}
 
 -- ---- reading
 
@@ -34,6 +34,7 @@ domain-is n x ws = fun-ext (λ v. by v (ltb x n))
   where
     at : rowIn (16 * x) ws ≡ rowIn (16 * (n * 0 + x)) ws
     at = let e : 16 * x ≡ 16 * (n * 0 + x) = omega arith in ap (λ i. rowIn i ws) e
+
     by : (v : ℤ) (b : Bool) → inRow (cond b (rowIn (16 * x) ws) []) v ≡ (b && inRow (rowIn (16 * (n * 0 + x)) ws) v)
     by v true = ap (λ r. inRow r v) at
     by v false = none-in v
@@ -45,16 +46,16 @@ row-ext us ws a b p q f =
     let lu : length (rowIn a us) ≡ 16 = simp (length-take, length-drop) (omega arith) in
     let lw : length (rowIn b ws) ≡ 16 = simp (length-take, length-drop) (omega arith) in
     ext-getD 0 (rowIn a us) (rowIn b ws) (lu ∙ sym lw) (λ i h.
-        let l : i < 16 = omega arith in
-        getD-take 16 (drop a us) i 0 l ∙ getD-drop a us i 0 ∙ f i l ∙ sym (getD-take 16 (drop b ws) i 0 l ∙ getD-drop b ws i 0))
+    let l : i < 16 = omega arith in
+    getD-take 16 (drop a us) i 0 l ∙ getD-drop a us i 0 ∙ f i l ∙ sym (getD-take 16 (drop b ws) i 0 l ∙ getD-drop b ws i 0))
 
 pub table-ext : (n a b : ℕ) (us ws : List ℕ) → ((x : ℕ) → x < n → rowIn (16 * (n * a + x)) us ≡ rowIn (16 * (n * b + x)) ws) → tableIn n a us ≡ tableIn n b ws
 table-ext n a b us ws f =
     fun-ext (λ x. fun-ext (λ v.
-        ⊎-elim
-        (λ l. ap (λ r. ltb x n && inRow r v) (f x l))
-        (λ l. ap (λ (t : Bool). t && inRow (rowIn (16 * (n * a + x)) us) v) (le-ltb x n l) ∙ sym (ap (λ (t : Bool). t && inRow (rowIn (16 * (n * b + x)) ws) v) (le-ltb x n l)))
-        (cases-lt x n)))
+    ⊎-elim
+    (λ l. ap (λ r. ltb x n && inRow r v) (f x l))
+    (λ l. ap (λ (t : Bool). t && inRow (rowIn (16 * (n * a + x)) us) v) (le-ltb x n l) ∙ sym (ap (λ (t : Bool). t && inRow (rowIn (16 * (n * b + x)) ws) v) (le-ltb x n l)))
+    (cases-lt x n)))
 
 pub saved-ext : (n d : ℕ) (us ws : List ℕ) → ((b x : ℕ) → 1 ≤ b → b ≤ d → x < n → rowIn (16 * (n * b + x)) us ≡ rowIn (16 * (n * b + x)) ws) → savedIn n d us ≡ savedIn n d ws
 saved-ext n zero us ws f = refl
@@ -122,13 +123,13 @@ pub is-written : (at : ℕ) (block ws us : List ℕ) → at + length block ≤ l
 is-written at block ws us h l before inside after =
     let e = length-written at block ws h in
     ext-getD 0 us (written at block ws) (l ∙ sym e) (λ j q.
-        ⊎-elim
-        (λ p. before j p ∙ sym (written-before at block ws j (omega arith) p))
-        (λ p. ⊎-elim
-          (λ r. let s : at + (j - at) ≡ j = omega arith in ap (λ i. getD us i 0) (sym s) ∙ inside (j - at) (omega arith) ∙ sym (ap (λ i. getD (written at block ws) i 0) (sym s) ∙ written-in at block ws (j - at) (omega arith) (omega arith)))
-          (λ r. after j r ∙ sym (written-after at block ws j (omega arith) r))
-          (cases-lt j (at + length block)))
-        (cases-lt j at))
+    ⊎-elim
+    (λ p. before j p ∙ sym (written-before at block ws j (omega arith) p))
+    (λ p. ⊎-elim
+    (λ r. let s : at + (j - at) ≡ j = omega arith in ap (λ i. getD us i 0) (sym s) ∙ inside (j - at) (omega arith) ∙ sym (ap (λ i. getD (written at block ws) i 0) (sym s) ∙ written-in at block ws (j - at) (omega arith) (omega arith)))
+    (λ r. after j r ∙ sym (written-after at block ws j (omega arith) r))
+    (cases-lt j (at + length block)))
+    (cases-lt j at))
 
 -- ---- the places of the tables
 
@@ -139,3 +140,8 @@ row-room n b m x h l = let p : n * (b + 1) ≤ n * (m + 1) = mul-le n (b + 1) n 
 -- the rows of the table lie before those of the saved ones
 pub row-apart : (n b x y : ℕ) → 1 ≤ b → x < n → 16 * x + 16 ≤ 16 * (n * b + y)
 row-apart n b x y h l = let p : n * 1 ≤ n * b = mul-le n 1 n b (omega arith) h in omega arith
+
+-- the frame by its parts
+pub frame-is : {n n′ m m′ a a′ : ℕ} (us ws : List ℕ) → n ≡ n′ → m ≡ m′ → a ≡ a′ → drop (need n′ m′) us ≡ drop (need n′ m′) ws → frameOf n m a us ≡ frameOf n′ m′ a′ ws
+frame-is {n′ = n′} {m′ = m′} {a = a} us ws e f g h =
+    ap₂ (λ n m. frameOf n m a us) e f ∙ ap₂ (λ (b : ℕ) (spare : List ℕ). record { vars = n′; most = m′; anchors = b ∷ []; spare = spare }) g h

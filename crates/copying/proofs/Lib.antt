@@ -1,3 +1,4 @@
 pub mod Blocks
 pub mod Meets
 pub mod Narrowed
+pub mod Copies

@@ -106,6 +106,7 @@ find-bit (suc n) p q = ⊎-elim (λ f. inl (f .0, omega (arith, f .1), f .2, f .
   where
     upto : ((k : ℕ) → k < n → p k ≡ true → q k ≡ true) → (p n ≡ true → q n ≡ true) → (k : ℕ) → k < suc n → p k ≡ true → q k ≡ true
     upto none last k h t = ⊎-elim (λ l. none k l t) (λ g. let e : k ≡ n = omega arith in subst (λ i. q i ≡ true) (sym e) (last (subst (λ i. p i ≡ true) e t))) (cases-lt k n)
+
     here : ((k : ℕ) → k < n → p k ≡ true → q k ≡ true) → (p n ≡ true) ⊎ (p n ≡ false) → (q n ≡ true) ⊎ (q n ≡ false) → ((k : ℕ) × (k < suc n) × (p k ≡ true) × (q k ≡ false)) ⊎ ((k : ℕ) → k < suc n → p k ≡ true → q k ≡ true)
     here none (inl a) (inr b) = inl (n, omega arith, a, b)
     here none (inl a) (inl b) = inr (upto none (λ t. b))
@@ -147,13 +148,14 @@ module _ (xs ys : List ℕ) (fits : (j : ℕ) → j < 16 → getD xs j 0 < 2 ^ 6
           let b = lost-bit (getD xs (w .0) 0) (getD ys (w .0) 0) (fits (w .0) (w .1)) (fits′ (w .0) (w .1)) (w .2) in
           let l : 64 * w .0 + b .0 < 1024 = omega (arith, w .1, b .1) in
           t ∙ sym (lt-ltb _ _ (size-less (inRow (meet xs ys)) (inRow xs) fewer (valueAt (64 * w .0 + b .0)) (value-at (64 * w .0 + b .0) l)
-              (value-in xs (w .0) (b .0) (w .1) (b .1) ∙ b .2)
-              (value-in (meet xs ys) (w .0) (b .0) (w .1) (b .1) ∙ ap (λ u. bit u (b .0)) (getD-meet xs ys (w .0)) ∙ b .3)))
+          (value-in xs (w .0) (b .0) (w .1) (b .1) ∙ b .2)
+          (value-in (meet xs ys) (w .0) (b .0) (w .1) (b .1) ∙ ap (λ u. bit u (b .0)) (getD-meet xs ys (w .0)) ∙ b .3)))
+
       none : lost xs ys 16 ≡ false → lost xs ys 16 ≡ ltb (sizeOf (inRow (meet xs ys))) (sizeOf (inRow xs))
       none t =
           let same = size-ext (inRow (meet xs ys)) (inRow xs) (λ v h.
-              let p = place-below v h in
-              ap (λ w. isValue v && bit w (place v % 64)) (getD-meet xs ys (place v / 64) ∙ not-lost xs ys 16 t (place v / 64) (omega arith))) in
+          let p = place-below v h in
+          ap (λ w. isValue v && bit w (place v % 64)) (getD-meet xs ys (place v / 64) ∙ not-lost xs ys 16 t (place v / 64) (omega arith))) in
           t ∙ sym (le-ltb _ _ (omega (arith, same)))
 
   -- and whether any is left
@@ -163,8 +165,9 @@ module _ (xs ys : List ℕ) (fits : (j : ℕ) → j < 16 → getD xs j 0 < 2 ^ 6
       all : gone xs ys 16 ≡ true → gone xs ys 16 ≡ eqb (sizeOf (inRow (meet xs ys))) 0
       all t =
           t ∙ sym (eq-eqb _ _ (size-none (inRow (meet xs ys)) (λ v h.
-              let p = place-below v h in
-              ap (λ w. isValue v && bit w (place v % 64)) (getD-meet xs ys (place v / 64) ∙ all-gone xs ys 16 t (place v / 64) (omega arith)) ∙ ap (λ (b : Bool). isValue v && b) (bit-zero (place v % 64)) ∙ and-false (isValue v))))
+          let p = place-below v h in
+          ap (λ w. isValue v && bit w (place v % 64)) (getD-meet xs ys (place v / 64) ∙ all-gone xs ys 16 t (place v / 64) (omega arith)) ∙ ap (λ (b : Bool). isValue v && b) (bit-zero (place v % 64)) ∙ and-false (isValue v))))
+
       some : gone xs ys 16 ≡ false → gone xs ys 16 ≡ eqb (sizeOf (inRow (meet xs ys))) 0
       some t =
           let w = some-left xs ys 16 t in

@@ -38,16 +38,16 @@ pub met-more : (p m : ℕ) (ws row vs : List ℕ) → p + m < length vs → Met 
 met-more p m ws row vs h met j =
     ⊎-elim
     (λ (e : j ≡ p + m).
-        let a : leb p j ≡ true = le-leb p j (omega arith) in
-        let b : ltb j (p + (m + 1)) ≡ true = lt-ltb j (p + (m + 1)) (omega arith) in
-        let s : j - p ≡ m = omega arith in
-        ap (λ i. getD (set vs (p + m) (bitAnd (getD vs (p + m) 0) (getD row m 0))) i 0) e
-        ∙ getD-set-same vs (p + m) _ 0 h
-        ∙ ap₂ (λ w i. bitAnd w (getD row i 0)) (met-out p m ws row vs met (p + m) (λ q r. omega arith) ∙ ap (λ i. getD ws i 0) (sym e)) (sym s)
-        ∙ sym (rw (a, b)))
+    let a : leb p j ≡ true = le-leb p j (omega arith) in
+    let b : ltb j (p + (m + 1)) ≡ true = lt-ltb j (p + (m + 1)) (omega arith) in
+    let s : j - p ≡ m = omega arith in
+    ap (λ i. getD (set vs (p + m) (bitAnd (getD vs (p + m) 0) (getD row m 0))) i 0) e
+    ∙ getD-set-same vs (p + m) _ 0 h
+    ∙ ap₂ (λ w i. bitAnd w (getD row i 0)) (met-out p m ws row vs met (p + m) (λ q r. omega arith) ∙ ap (λ i. getD ws i 0) (sym e)) (sym s)
+    ∙ sym (rw (a, b)))
     (λ ne.
-        let b : ltb j (p + m) ≡ ltb j (p + (m + 1)) = grind (arith, tells) in
-        getD-set-other vs (p + m) j _ 0 ne ∙ met j ∙ ap (λ (t : Bool). cond (leb p j && t) (bitAnd (getD ws j 0) (getD row (j - p) 0)) (getD ws j 0)) b)
+    let b : ltb j (p + m) ≡ ltb j (p + (m + 1)) = grind (arith, tells) in
+    getD-set-other vs (p + m) j _ 0 ne ∙ met j ∙ ap (λ (t : Bool). cond (leb p j && t) (bitAnd (getD ws j 0) (getD row (j - p) 0)) (getD ws j 0)) b)
     (cases-eq j (p + m))
 
 -- the word that the loop reads, as the row has it
@@ -55,8 +55,8 @@ pub read-word : (p m : ℕ) (ws row vs : List ℕ) → m < 16 → Met p m ws row
 read-word p m ws row vs h met = met-out p m ws row vs met (p + m) (λ q r. omega arith) ∙ sym (getD-take 16 (drop p ws) m 0 h ∙ getD-drop p ws m 0)
 
 -- the words after a keep of a row at x
-abbrev pub narrowed : ℕ → List ℕ → List ℕ → List ℕ
-narrowed x row ws = written (16 * x) (meet (rowIn (16 * x) ws) row) ws
+abbrev pub met-words : ℕ → List ℕ → List ℕ → List ℕ
+met-words x row ws = written (16 * x) (meet (rowIn (16 * x) ws) row) ws
 
 length-row : (p : ℕ) (ws : List ℕ) → p + 16 ≤ length ws → length (rowIn p ws) ≡ 16
 length-row p ws h = simp (length-take, length-drop) (omega arith)
@@ -71,64 +71,64 @@ module _ (n most x : ℕ) (ws row : List ℕ) (below : x < n) (room : need n mos
   over : 16 * x + length (meet (rowIn (16 * x) ws) row) ≤ length ws
   over = omega (arith, fit, block)
 
-  pub is-narrowed : (vs : List ℕ) → length vs ≡ length ws → Met (16 * x) 16 ws row vs → vs ≡ narrowed x row ws
+  pub is-narrowed : (vs : List ℕ) → length vs ≡ length ws → Met (16 * x) 16 ws row vs → vs ≡ met-words x row ws
   is-narrowed vs l met =
       let b = block in
       is-written (16 * x) (meet (rowIn (16 * x) ws) row) ws vs over l
       (λ j h. met-out (16 * x) 16 ws row vs met j (λ p q. omega arith))
       (λ j h. let k : j < 16 = omega arith in
-          met-in (16 * x) 16 ws row vs met j k
-          ∙ ap (λ w. bitAnd w (getD row j 0)) (sym (getD-take 16 (drop (16 * x) ws) j 0 k ∙ getD-drop (16 * x) ws j 0))
-          ∙ sym (getD-meet (rowIn (16 * x) ws) row j))
+      met-in (16 * x) 16 ws row vs met j k
+      ∙ ap (λ w. bitAnd w (getD row j 0)) (sym (getD-take 16 (drop (16 * x) ws) j 0 k ∙ getD-drop (16 * x) ws j 0))
+      ∙ sym (getD-meet (rowIn (16 * x) ws) row j))
       (λ j h. met-out (16 * x) 16 ws row vs met j (λ p q. omega arith))
 
-  row-here : rowIn (16 * x) (narrowed x row ws) ≡ meet (rowIn (16 * x) ws) row
+  row-here : rowIn (16 * x) (met-words x row ws) ≡ meet (rowIn (16 * x) ws) row
   row-here =
       let b = block in
       let z : 16 * x + 0 ≡ 16 * x = omega arith in
-      ap (λ p. rowIn p (narrowed x row ws)) (sym z)
+      ap (λ p. rowIn p (met-words x row ws)) (sym z)
       ∙ row-inside (16 * x) (meet (rowIn (16 * x) ws) row) ws 0 over (omega arith)
       ∙ take-all 16 (meet (rowIn (16 * x) ws) row) (omega arith)
 
-  row-there : (p : ℕ) → p + 16 ≤ length ws → (p + 16 ≤ 16 * x) ⊎ (16 * x + 16 ≤ p) → rowIn p (narrowed x row ws) ≡ rowIn p ws
+  row-there : (p : ℕ) → p + 16 ≤ length ws → (p + 16 ≤ 16 * x) ⊎ (16 * x + 16 ≤ p) → rowIn p (met-words x row ws) ≡ rowIn p ws
   row-there p h side = let b = block in row-beside (16 * x) (meet (rowIn (16 * x) ws) row) ws p over h (⊎-elim (λ l. inl l) (λ g. inr (omega arith)) side)
 
-  domain-here : tableIn n 0 (narrowed x row ws) x ≡ inRow (meet (rowIn (16 * x) ws) row)
-  domain-here = sym (ap inRow (sym (cond-true (ltb x n) _ _ (lt-ltb x n below) ∙ row-here)) ∙ domain-is n x (narrowed x row ws))
+  domain-here : tableIn n 0 (met-words x row ws) x ≡ inRow (meet (rowIn (16 * x) ws) row)
+  domain-here = sym (ap inRow (sym (cond-true (ltb x n) _ _ (lt-ltb x n below) ∙ row-here)) ∙ domain-is n x (met-words x row ws))
 
   domain-was : tableIn n 0 ws x ≡ inRow (rowIn (16 * x) ws)
   domain-was = sym (ap inRow (sym (cond-true (ltb x n) _ _ (lt-ltb x n below))) ∙ domain-is n x ws)
 
-  pub keeps-table : tableIn n 0 (narrowed x row ws) ≡ kept x row (tableIn n 0 ws)
+  pub keeps-table : tableIn n 0 (met-words x row ws) ≡ kept x row (tableIn n 0 ws)
   keeps-table =
       fun-ext (λ y. fun-ext (λ v.
-          ⊎-elim
-          (λ (e : y ≡ x).
-              ap (λ i. tableIn n 0 (narrowed x row ws) i v) e
-              ∙ ap (λ (d : Domain). d v) domain-here
-              ∙ in-meet (rowIn (16 * x) ws) row v
-              ∙ ap (λ (b : Bool). b && inRow row v) (ap (λ (d : Domain). d v) (sym domain-was) ∙ ap (λ i. tableIn n 0 ws i v) (sym e))
-              ∙ sym (kept-here x row (tableIn n 0 ws) y v e))
-          (λ ne. other y v ne (cases-lt y n) ∙ sym (kept-beside x row (tableIn n 0 ws) y v ne))
-          (cases-eq y x)))
+      ⊎-elim
+      (λ (e : y ≡ x).
+      ap (λ i. tableIn n 0 (met-words x row ws) i v) e
+      ∙ ap (λ (d : Domain). d v) domain-here
+      ∙ in-meet (rowIn (16 * x) ws) row v
+      ∙ ap (λ (b : Bool). b && inRow row v) (ap (λ (d : Domain). d v) (sym domain-was) ∙ ap (λ i. tableIn n 0 ws i v) (sym e))
+      ∙ sym (kept-here x row (tableIn n 0 ws) y v e))
+      (λ ne. other y v ne (cases-lt y n) ∙ sym (kept-beside x row (tableIn n 0 ws) y v ne))
+      (cases-eq y x)))
     where
-      other : (y : ℕ) (v : ℤ) → (y ≡ x → ⊥) → (y < n) ⊎ (n ≤ y) → tableIn n 0 (narrowed x row ws) y v ≡ tableIn n 0 ws y v
+      other : (y : ℕ) (v : ℤ) → (y ≡ x → ⊥) → (y < n) ⊎ (n ≤ y) → tableIn n 0 (met-words x row ws) y v ≡ tableIn n 0 ws y v
       other y v ne (inl l) =
           ap (λ r. ltb y n && inRow r v)
           (row-there (16 * (n * 0 + y)) (omega (arith, row-room n 0 most y (omega arith) l)) (⊎-elim (λ u. inl (omega arith)) (λ u. inr (omega (arith, ne))) (cases-lt y x)))
-      other y v ne (inr l) = ap (λ (t : Bool). t && inRow (rowIn (16 * (n * 0 + y)) (narrowed x row ws)) v) (le-ltb y n l) ∙ sym (ap (λ (t : Bool). t && inRow (rowIn (16 * (n * 0 + y)) ws) v) (le-ltb y n l))
+      other y v ne (inr l) = ap (λ (t : Bool). t && inRow (rowIn (16 * (n * 0 + y)) (met-words x row ws)) v) (le-ltb y n l) ∙ sym (ap (λ (t : Bool). t && inRow (rowIn (16 * (n * 0 + y)) ws) v) (le-ltb y n l))
 
-  pub keeps-saved : (depth : ℕ) → depth ≤ most → savedIn n depth (narrowed x row ws) ≡ savedIn n depth ws
+  pub keeps-saved : (depth : ℕ) → depth ≤ most → savedIn n depth (met-words x row ws) ≡ savedIn n depth ws
   keeps-saved depth h =
-      saved-ext n depth (narrowed x row ws) ws (λ b y p q l.
-          row-there (16 * (n * b + y)) (omega (arith, row-room n b most y (omega arith) l)) (inr (row-apart n b x y p below)))
+      saved-ext n depth (met-words x row ws) ws (λ b y p q l.
+      row-there (16 * (n * b + y)) (omega (arith, row-room n b most y (omega arith) l)) (inr (row-apart n b x y p below)))
 
-  pub keeps-spare : drop (need n most) (narrowed x row ws) ≡ drop (need n most) ws
+  pub keeps-spare : drop (need n most) (met-words x row ws) ≡ drop (need n most) ws
   keeps-spare = drop-written (16 * x) (meet (rowIn (16 * x) ws) row) ws (need n most) over (omega (arith, block, row-room n 0 most x (omega arith) below))
 
   module _ (fits : (j : ℕ) → j < 16 → getD (rowIn (16 * x) ws) j 0 < 2 ^ 64) (fits′ : (j : ℕ) → j < 16 → getD row j 0 < 2 ^ 64) where
-    pub shrinks : lost (rowIn (16 * x) ws) row 16 ≡ ltb (sizeOf (tableIn n 0 (narrowed x row ws) x)) (sizeOf (tableIn n 0 ws x))
+    pub shrinks : lost (rowIn (16 * x) ws) row 16 ≡ ltb (sizeOf (tableIn n 0 (met-words x row ws) x)) (sizeOf (tableIn n 0 ws x))
     shrinks = lost-size (rowIn (16 * x) ws) row fits fits′ ∙ ap₂ (λ (d e : Domain). ltb (sizeOf d) (sizeOf e)) (sym domain-here) (sym domain-was)
 
-    pub empties : gone (rowIn (16 * x) ws) row 16 ≡ eqb (sizeOf (tableIn n 0 (narrowed x row ws) x)) 0
+    pub empties : gone (rowIn (16 * x) ws) row 16 ≡ eqb (sizeOf (tableIn n 0 (met-words x row ws) x)) 0
     empties = gone-size (rowIn (16 * x) ws) row fits fits′ ∙ ap (λ (d : Domain). eqb (sizeOf d) 0) (sym domain-here)

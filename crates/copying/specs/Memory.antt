@@ -9,6 +9,7 @@ use Rattle.std.specs.declared.result.Result.{Result}
 use Rattle.std.specs.declared.result.Result.the-variants.{Ok, Err}
 use Rattle.tables.specs.declared.fault.StoreFault.{StoreFault}
 use Rattle.tables.specs.declared.fault.StoreFault.the-variants.{Limits}
+use Rattle.tables.specs.Stores.{Frame}
 use Rattle.tables.specs.Rows.{inRow}
 use Rattle.tables.specs.Tables.{Table}
 
@@ -50,3 +51,19 @@ abbrev pub meet : List ℕ → List ℕ → List ℕ
 meet [] row = []
 meet (w ∷ words) [] = []
 meet (w ∷ words) (r ∷ row) = bitAnd w r ∷ meet words row
+
+-- the words after a keep of a row at x
+abbrev pub narrowed : ℕ → ℕ → List ℕ → List ℕ → List ℕ
+narrowed n x row words = cond (ltb x n) (written (16 * x) (meet (rowIn (16 * x) words) row) words) words
+
+-- the words after a save, where `depth` tables were saved
+abbrev pub saveWords : ℕ → ℕ → List ℕ → List ℕ
+saveWords n depth words = written (16 * (n * (depth + 1))) (take (16 * n) words) words
+
+-- the words after a restore, where `depth` tables were saved
+abbrev pub restoreWords : ℕ → ℕ → List ℕ → List ℕ
+restoreWords n depth words = written 0 (take (16 * n) (drop (16 * (n * depth)) words)) words
+
+-- what no call changes
+abbrev pub frameOf : ℕ → ℕ → ℕ → List ℕ → Frame
+frameOf n most anchor words = record { vars = n; most = most; anchors = anchor ∷ []; spare = drop (need n most) words }

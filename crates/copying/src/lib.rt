@@ -2,12 +2,13 @@
 ghost use mathlib.Core.Path.{_≡_};
 ghost use mathlib.Core.Bool.{Bool, true, false, cond};
 ghost use mathlib.Core.List.{List, [], _∷_};
-ghost use Prim.Native.Nat.{ℕ, _+_, _*_, _<_, _≤_};
-ghost use lib.Dec.{eqb, ltb};
+ghost use Prim.Native.Nat.{ℕ, _+_, _-_, _*_, _<_, _≤_};
 ghost use lib.ListN.{length, take, drop};
 ghost use denote.Ref.{now as held, name};
-ghost use Rattle.tables.specs.Tables.{sizeOf, kept};
-ghost use Rattle.copying.specs.Memory.{need, fits, answerCheck, rowIn, domainIn, tableIn, savedIn, written, meet};
+ghost use Rattle.std.specs.Results.{Cases, isOk};
+ghost use Rattle.tables.specs.Stores.{answerKeep, answerSave, answerRestore, newest, older};
+ghost use Rattle.tables.specs.Tables.{kept};
+ghost use Rattle.copying.specs.Memory.{need, fits, answerCheck, domainIn, tableIn, savedIn, frameOf, narrowed, saveWords, restoreWords};
 ghost use Rattle.copying.specs.Facts.{table-shaped, saved-shaped, saved-within};
 use tables::Domains;
 use tables::Kept;
@@ -50,8 +51,18 @@ impl<'a> Copying<'a> {
         ensures none { λ r. ⌜ r .depth ≡ 0 ⌝ }
     {
         match Copying::check(words, n, most) {
-            Ok(()) => Copying { words, n, most, depth: 0 },
-            Err(_) => Copying { words, n: 0, most: 1, depth: 0 },
+            Ok(()) => Copying {
+                words,
+                n,
+                most,
+                depth: 0,
+            },
+            Err(_) => Copying {
+                words,
+                n: 0,
+                most: 1,
+                depth: 0,
+            },
         }
     }
 
@@ -70,15 +81,9 @@ impl<'a> Copying<'a> {
 pub impl<'a> Domains for Copying<'a> as CopyingDomains {
     ghost table = { λ s. tableIn (s .n) 0 (held (s .words)) };
 
-    ghost vars = { λ s. s .n };
-
     ghost saved = { λ s. savedIn (s .n) (s .depth) (held (s .words)) };
 
-    ghost most = { λ s. s .most };
-
-    ghost anchors = { λ s. name (s .words) ∷ [] };
-
-    ghost spare = { λ s. drop (need (s .n) (s .most)) (held (s .words)) };
+    ghost frame = { λ s. frameOf (s .n) (s .most) (name (s .words)) (held (s .words)) };
 
     ghost shaped = { λ s. table-shaped (s .n) 0 (held (s .words)) };
 
@@ -113,19 +118,17 @@ pub impl<'a> Domains for Copying<'a> as CopyingDomains {
     // The words of variable x are met with the row's, and no other word is written.
     fn keep(&mut self, x: usize, row: Row) -> Kept
         ensures after { λ _. ⌜ tableIn (now (self .exit) .n) 0 (now (now (self .exit) .words)) ≡ kept x row (tableIn (now (self .entry) .n) 0 (now (now (self .entry) .words))) ⌝ }
-        ensures smaller { λ r. ⌜ r .smaller ≡ ltb (sizeOf (tableIn (now (self .exit) .n) 0 (now (now (self .exit) .words)) x)) (sizeOf (tableIn (now (self .entry) .n) 0 (now (now (self .entry) .words)) x)) ⌝ }
-        ensures empty { λ r. ⌜ r .empty ≡ eqb (sizeOf (tableIn (now (self .exit) .n) 0 (now (now (self .exit) .words)) x)) 0 ⌝ }
+        ensures answer { λ r. ⌜ r ≡ answerKeep (tableIn (now (self .entry) .n) 0 (now (now (self .entry) .words)) x) (tableIn (now (self .exit) .n) 0 (now (now (self .exit) .words)) x) ⌝ }
         ensures same_saved { λ _. ⌜ savedIn (now (self .exit) .n) (now (self .exit) .depth) (now (now (self .exit) .words)) ≡ savedIn (now (self .entry) .n) (now (self .entry) .depth) (now (now (self .entry) .words)) ⌝ }
-        ensures same_vars { λ _. ⌜ now (self .exit) .n ≡ now (self .entry) .n ⌝ }
-        ensures same_most { λ _. ⌜ now (self .exit) .most ≡ now (self .entry) .most ⌝ }
-        ensures same_anchors { λ _. ⌜ name (now (self .exit) .words) ∷ [] ≡ name (now (self .entry) .words) ∷ [] ⌝ }
-        ensures same_spare { λ _. ⌜ drop (need (now (self .exit) .n) (now (self .exit) .most)) (now (now (self .exit) .words)) ≡ drop (need (now (self .entry) .n) (now (self .entry) .most)) (now (now (self .entry) .words)) ⌝ }
+        ensures same_frame { λ _. ⌜ frameOf (now (self .exit) .n) (now (self .exit) .most) (name (now (self .exit) .words)) (now (now (self .exit) .words)) ≡ frameOf (now (self .entry) .n) (now (self .entry) .most) (name (now (self .entry) .words)) (now (now (self .entry) .words)) ⌝ }
         ensures outside { λ _. ⌜ (now (self .entry) .n ≤ x → now (self .exit) ≡ now (self .entry)) ⌝ }
-        ensures memory { λ _. ⌜ now (now (self .exit) .words) ≡ cond (ltb x (now (self .entry) .n)) (written (16 * x) (meet (rowIn (16 * x) (now (now (self .entry) .words))) row) (now (now (self .entry) .words))) (now (now (self .entry) .words)) ⌝ }
-        ensures same_depth { λ _. ⌜ now (self .exit) .depth ≡ now (self .entry) .depth ⌝ }
+        ensures memory { λ _. ⌜ (now (now (self .exit) .words) ≡ narrowed (now (self .entry) .n) x row (now (now (self .entry) .words))) × (now (self .exit) .depth ≡ now (self .entry) .depth) ⌝ }
     {
         if x >= self.n {
-            return Kept { smaller: false, empty: true };
+            return Kept {
+                smaller: false,
+                empty: true,
+            };
         }
         let at = 16 * x;
         let mut smaller = false;
@@ -142,12 +145,20 @@ pub impl<'a> Domains for Copying<'a> as CopyingDomains {
 }
 
 pub impl<'a> Levels for Copying<'a> as CopyingLevels {
-    fn save(&mut self) -> Result<(), StoreFault> {
+    // The table's words are copied behind the saved ones, and no other word is written.
+    fn save(&mut self) -> Result<(), StoreFault>
+        ensures answer { λ r. ⌜ r ≡ answerSave (length (savedIn (now (self .entry) .n) (now (self .entry) .depth) (now (now (self .entry) .words)))) (now (self .entry) .most) ⌝ }
+        ensures noted { λ r. ⌜ savedIn (now (self .exit) .n) (now (self .exit) .depth) (now (now (self .exit) .words)) ≡ cond (isOk r) (tableIn (now (self .entry) .n) 0 (now (now (self .entry) .words)) ∷ savedIn (now (self .entry) .n) (now (self .entry) .depth) (now (now (self .entry) .words))) (savedIn (now (self .entry) .n) (now (self .entry) .depth) (now (now (self .entry) .words))) ⌝ }
+        ensures same_table { λ _. ⌜ tableIn (now (self .exit) .n) 0 (now (now (self .exit) .words)) ≡ tableIn (now (self .entry) .n) 0 (now (now (self .entry) .words)) ⌝ }
+        ensures same_frame { λ _. ⌜ frameOf (now (self .exit) .n) (now (self .exit) .most) (name (now (self .exit) .words)) (now (now (self .exit) .words)) ≡ frameOf (now (self .entry) .n) (now (self .entry) .most) (name (now (self .entry) .words)) (now (now (self .entry) .words)) ⌝ }
+        ensures refused { λ r. ⌜ Cases r (λ _. Unit {0}) (λ _. now (self .exit) ≡ now (self .entry)) ⌝ }
+        ensures memory { λ r. ⌜ (now (now (self .exit) .words) ≡ cond (isOk r) (saveWords (now (self .entry) .n) (now (self .entry) .depth) (now (now (self .entry) .words))) (now (now (self .entry) .words))) × (now (self .exit) .depth ≡ cond (isOk r) (now (self .entry) .depth + 1) (now (self .entry) .depth)) ⌝ }
+    {
         if self.depth >= self.most {
             return Err(StoreFault::Full);
         }
         let len = 16 * self.n;
-        let to = len * (self.depth + 1);
+        let to = 16 * (self.n * (self.depth + 1));
         for k in 0..len {
             self.words[to + k] = self.words[k];
         }
@@ -155,12 +166,20 @@ pub impl<'a> Levels for Copying<'a> as CopyingLevels {
         Ok(())
     }
 
-    fn restore(&mut self) -> Result<(), StoreFault> {
+    // The newest copy's words are copied over the table's, and no other word is written.
+    fn restore(&mut self) -> Result<(), StoreFault>
+        ensures answer { λ r. ⌜ r ≡ answerRestore (savedIn (now (self .entry) .n) (now (self .entry) .depth) (now (now (self .entry) .words))) ⌝ }
+        ensures back { λ _. ⌜ tableIn (now (self .exit) .n) 0 (now (now (self .exit) .words)) ≡ newest (savedIn (now (self .entry) .n) (now (self .entry) .depth) (now (now (self .entry) .words))) (tableIn (now (self .entry) .n) 0 (now (now (self .entry) .words))) ⌝ }
+        ensures left { λ _. ⌜ savedIn (now (self .exit) .n) (now (self .exit) .depth) (now (now (self .exit) .words)) ≡ older (savedIn (now (self .entry) .n) (now (self .entry) .depth) (now (now (self .entry) .words))) ⌝ }
+        ensures same_frame { λ _. ⌜ frameOf (now (self .exit) .n) (now (self .exit) .most) (name (now (self .exit) .words)) (now (now (self .exit) .words)) ≡ frameOf (now (self .entry) .n) (now (self .entry) .most) (name (now (self .entry) .words)) (now (now (self .entry) .words)) ⌝ }
+        ensures refused { λ r. ⌜ Cases r (λ _. Unit {0}) (λ _. now (self .exit) ≡ now (self .entry)) ⌝ }
+        ensures memory { λ r. ⌜ (now (now (self .exit) .words) ≡ cond (isOk r) (restoreWords (now (self .entry) .n) (now (self .entry) .depth) (now (now (self .entry) .words))) (now (now (self .entry) .words))) × (now (self .exit) .depth ≡ now (self .entry) .depth - 1) ⌝ }
+    {
         if self.depth == 0 {
             return Err(StoreFault::NoSave);
         }
         let len = 16 * self.n;
-        let from = len * self.depth;
+        let from = 16 * (self.n * self.depth);
         for k in 0..len {
             self.words[k] = self.words[from + k];
         }

@@ -56,11 +56,11 @@ count-less p q (suc n) f m h a b =
     ⊎-elim
     (λ l. let here = implies-le (p n) (q n) (f n (omega arith)) in let below = count-less p q n (λ k h. f k (omega arith)) m l a b in omega arith)
     (λ g.
-        let e : m ≡ n = omega arith in
-        let none : _≡_ {A = ℕ} (cond (p n) 1 0) 0 = ap (λ (t : Bool). cond t 1 0) (subst (λ i. p i ≡ false) e b) in
-        let one : _≡_ {A = ℕ} (cond (q n) 1 0) 1 = ap (λ (t : Bool). cond t 1 0) (subst (λ i. q i ≡ true) e a) in
-        let below = count-mono p q n (λ k h. f k (omega arith)) in
-        omega arith)
+    let e : m ≡ n = omega arith in
+    let none : _≡_ {A = ℕ} (cond (p n) 1 0) 0 = ap (λ (t : Bool). cond t 1 0) (subst (λ i. p i ≡ false) e b) in
+    let one : _≡_ {A = ℕ} (cond (q n) 1 0) 1 = ap (λ (t : Bool). cond t 1 0) (subst (λ i. q i ≡ true) e a) in
+    let below = count-mono p q n (λ k h. f k (omega arith)) in
+    omega arith)
     (cases-lt m n)
 
 -- ---- the sizes of domains
@@ -99,8 +99,8 @@ pub count-word : (row : List ℕ) (j : ℕ) → getD row j 0 < 2 ^ 64 → count 
 count-word row j h =
     count-add (atPlace row) (64 * j) 64
     ∙ ap (λ n. count (atPlace row) (64 * j) + n)
-      (count-ext (λ k. atPlace row (64 * j + k)) (bit (getD row j 0)) 64 (at-word row j)
-      ∙ count-bits (getD row j 0) 64 ∙ ap ones (mod-eq-of-lt h))
+    (count-ext (λ k. atPlace row (64 * j + k)) (bit (getD row j 0)) 64 (at-word row j)
+    ∙ count-bits (getD row j 0) 64 ∙ ap ones (mod-eq-of-lt h))
 
 -- the words that are there say all
 pub size-by-words : (row : List ℕ) (m : ℕ) → m ≤ 16 → ((p : ℕ) → 64 * m ≤ p → p < 1024 → atPlace row p ≡ false) → sizeOf (inRow row) ≡ count (atPlace row) (64 * m)

@@ -45,24 +45,26 @@ order-down p u h l = let e = place-is u h in omega (arith, ints)
 
 module _ (row : List ℕ) (bound : ℤ) (s : ℕ) where
   pub next-value : (p : ℕ) → ((u : ℤ) → isValue u ≡ true → ltb (place u) s ≡ ltZ u bound) → First (atPlace row) s 1024 (Some p) → Least (inRow row) bound (valueAt p)
-  next-value p test f = record
-    { reached = not-less (valueAt p) bound (sym (test (valueAt p) (value-at p (f .1))) ∙ ap (λ q. ltb q s) (place-at p (f .1)) ∙ le-ltb p s (f .0))
-    ; member = in-row-at row p (f .1) ∙ f .2
-    ; least = λ u h t.
+  next-value p test f = record {
+    reached = not-less (valueAt p) bound (sym (test (valueAt p) (value-at p (f .1))) ∙ ap (λ q. ltb q s) (place-at p (f .1)) ∙ le-ltb p s (f .0));
+    member = in-row-at row p (f .1) ∙ f .2;
+    least = λ u h t.
         let b = and-parts (isValue u) (atPlace row (place u)) t in
         let l : s ≤ place u = ltb-false (place u) s (test u (b .0) ∙ less-false u bound h) in
-        ⊎-elim (λ low. absurd (both-ways (atPlace row (place u)) (f .3 (place u) l low) (b .1))) (λ high. order-up p u (b .0) high) (cases-lt (place u) p) }
+        ⊎-elim (λ low. absurd (both-ways (atPlace row (place u)) (f .3 (place u) l low) (b .1))) (λ high. order-up p u (b .0) high) (cases-lt (place u) p);
+  }
 
   pub last-value : (p : ℕ) → s ≤ 1024 → ((u : ℤ) → isValue u ≡ true → ltb (place u) s ≡ leZ u bound) → Final (atPlace row) s (Some p) → Greatest (inRow row) bound (valueAt p)
   last-value p small test f =
-    let in-row : p < 1024 = omega (arith, f .0) in
-    record
-    { reached = le-true (valueAt p) bound (sym (test (valueAt p) (value-at p in-row)) ∙ ap (λ q. ltb q s) (place-at p in-row) ∙ lt-ltb p s (f .0))
-    ; member = in-row-at row p in-row ∙ f .1
-    ; greatest = λ u h t.
-        let b = and-parts (isValue u) (atPlace row (place u)) t in
-        let l : place u < s = ltb-true (place u) s (test u (b .0) ∙ true-le u bound h) in
-        ⊎-elim (λ low. absurd (both-ways (atPlace row (place u)) (f .2 (place u) low l) (b .1))) (λ high. order-down p u (b .0) high) (cases-lt p (place u)) }
+      let in-row : p < 1024 = omega (arith, f .0) in
+      record {
+        reached = le-true (valueAt p) bound (sym (test (valueAt p) (value-at p in-row)) ∙ ap (λ q. ltb q s) (place-at p in-row) ∙ lt-ltb p s (f .0));
+        member = in-row-at row p in-row ∙ f .1;
+        greatest = λ u h t.
+            let b = and-parts (isValue u) (atPlace row (place u)) t in
+            let l : place u < s = ltb-true (place u) s (test u (b .0) ∙ true-le u bound h) in
+            ⊎-elim (λ low. absurd (both-ways (atPlace row (place u)) (f .2 (place u) low l) (b .1))) (λ high. order-down p u (b .0) high) (cases-lt p (place u));
+      }
 
 -- what is found in a row is a value
 pub next-bounds : (row : List ℕ) (from : ℤ) (r : Option ℤ) → Next (inRow row) from r → Cases r (Unit {0}) (λ v. (negsuc 511 ≤ℤ v) × (v ≤ℤ pos 511))

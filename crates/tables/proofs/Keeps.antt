@@ -1,15 +1,17 @@
 -- What a keep does to a table.
-use mathlib.Core.Path.{_≡_, refl, sym, ap, fun-ext, subst, _∙_}
+use mathlib.Core.Path.{_≡_, refl, sym, ap, ap₂, fun-ext, subst, _∙_}
 use mathlib.Core.Bool.{Bool, true, false, not, _&&_, _||_}
 use mathlib.Core.List.{List}
 use mathlib.Core.Logic.{⊎-elim}
 use Prim.Native.Nat.{ℕ, _≤_, _<_}
 use native.Mathlib.Omega.{arith}
-use lib.Dec.{eqb}
+use lib.Dec.{eqb, ltb}
 use lib.IntN.{ℤ}
 use Rattle.std.proofs.shelf.Tests.{cases-eq, cases-bool, eq-eqb, ne-eqb, both-ways}
 use Rattle.tables.specs.Rows.{inRow}
-use Rattle.tables.specs.Tables.{Table, Shaped, kept}
+use Rattle.tables.specs.Tables.{Domain, Table, sizeOf, Shaped, kept}
+use Rattle.tables.specs.declared.kept.Kept.{Kept}
+use Rattle.tables.specs.Stores.{answerKeep}
 
 and-true : (b : Bool) → (b && true) ≡ b
 and-true true = refl
@@ -31,7 +33,11 @@ nothing-outside n t shaped x h v = ⊎-elim (λ yes. absurd (omega (arith, shape
 pub kept-outside : (n x : ℕ) (row : List ℕ) (t : Table) → Shaped n t → n ≤ x → t ≡ kept x row t
 kept-outside n x row t shaped h =
     fun-ext (λ y. fun-ext (λ v.
-        sym (⊎-elim
-        (λ (e : y ≡ x). let none : t y v ≡ false = nothing-outside n t shaped y (omega arith) v in ap (λ (b : Bool). b && (not (eqb y x) || inRow row v)) none ∙ sym none)
-        (λ ne. kept-beside x row t y v ne)
-        (cases-eq y x))))
+    sym (⊎-elim
+    (λ (e : y ≡ x). let none : t y v ≡ false = nothing-outside n t shaped y (omega arith) v in ap (λ (b : Bool). b && (not (eqb y x) || inRow row v)) none ∙ sym none)
+    (λ ne. kept-beside x row t y v ne)
+    (cases-eq y x))))
+
+-- the answer of a keep by its two parts
+pub kept-is : {a b : Bool} (d e : Domain) → a ≡ ltb (sizeOf e) (sizeOf d) → b ≡ eqb (sizeOf e) 0 → _≡_ {A = Kept} (record { smaller = a; empty = b }) (answerKeep d e)
+kept-is d e p q = ap₂ (λ (a b : Bool). record { smaller = a; empty = b }) p q

@@ -101,17 +101,19 @@ equal-same u v h = grind (arith, ints)
 -- a value is the one at its place
 pub same-place : (u v : ℤ) → isValue v ≡ true → (isValue u && eqb (place u) (place v)) ≡ equalZ u v
 same-place u v h =
-    same-from-decides {P = u ≡ v} (isValue u && eqb (place u) (place v)) (equalZ u v)
-    ((λ t. let b = and-parts (isValue u) (eqb (place u) (place v)) t in let e = eqb-true (place u) (place v) (b .1) in sym (valueAt-place u (b .0)) ∙ ap valueAt e ∙ valueAt-place v h),
-     (λ e. and-from (isValue u) (eqb (place u) (place v)) (ap isValue e ∙ h) (eq-eqb (place u) (place v) (ap place e))))
+    same-from-decides {P = u ≡ v} (isValue u && eqb (place u) (place v)) (equalZ u v) (
+      (λ t. let b = and-parts (isValue u) (eqb (place u) (place v)) t in let e = eqb-true (place u) (place v) (b .1) in sym (valueAt-place u (b .0)) ∙ ap valueAt e ∙ valueAt-place v h),
+      (λ e. and-from (isValue u) (eqb (place u) (place v)) (ap isValue e ∙ h) (eq-eqb (place u) (place v) (ap place e))),
+    )
     (equal-true u v, equal-same u v)
 
 -- a place by its word and its bit
 pub eqb-place : (q p : ℕ) → (eqb (q / 64) (p / 64) && eqb (q % 64) (p % 64)) ≡ eqb q p
 eqb-place q p =
-    same-from-decides {P = q ≡ p} (eqb (q / 64) (p / 64) && eqb (q % 64) (p % 64)) (eqb q p)
-    ((λ t. let b = and-parts (eqb (q / 64) (p / 64)) (eqb (q % 64) (p % 64)) t in let e = eqb-true (q / 64) (p / 64) (b .0) in let f = eqb-true (q % 64) (p % 64) (b .1) in omega arith),
-     (λ e. and-from (eqb (q / 64) (p / 64)) (eqb (q % 64) (p % 64)) (eq-eqb (q / 64) (p / 64) (ap (λ n. n / 64) e)) (eq-eqb (q % 64) (p % 64) (ap (λ n. n % 64) e))))
+    same-from-decides {P = q ≡ p} (eqb (q / 64) (p / 64) && eqb (q % 64) (p % 64)) (eqb q p) (
+      (λ t. let b = and-parts (eqb (q / 64) (p / 64)) (eqb (q % 64) (p % 64)) t in let e = eqb-true (q / 64) (p / 64) (b .0) in let f = eqb-true (q % 64) (p % 64) (b .1) in omega arith),
+      (λ e. and-from (eqb (q / 64) (p / 64)) (eqb (q % 64) (p % 64)) (eq-eqb (q / 64) (p / 64) (ap (λ n. n / 64) e)) (eq-eqb (q % 64) (p % 64) (ap (λ n. n % 64) e))),
+    )
     (decides-eqb q p)
 
 -- one word written
@@ -153,8 +155,8 @@ pub at-drop : (row : List ℕ) (p q : ℕ) → p / 64 < length row → atPlace (
 at-drop row p q h =
     at-set row (p / 64) _ q h
     ∙ ap (λ (b : Bool). cond (eqb (q / 64) (p / 64)) b (atPlace row q))
-      (bit-and (getD row (p / 64) 0) (2 ^ 64 - 1 - 2 ^ (p % 64)) (q % 64)
-      ∙ ap (λ (b : Bool). bit (getD row (p / 64) 0) (q % 64) && b) (bit-not 64 (2 ^ (p % 64)) (q % 64) (omega arith) (pow-below (p % 64) 64 (omega arith)) ∙ ap not (bit-one (p % 64) (q % 64))))
+    (bit-and (getD row (p / 64) 0) (2 ^ 64 - 1 - 2 ^ (p % 64)) (q % 64)
+    ∙ ap (λ (b : Bool). bit (getD row (p / 64) 0) (q % 64) && b) (bit-not 64 (2 ^ (p % 64)) (q % 64) (omega arith) (pow-below (p % 64) 64 (omega arith)) ∙ ap not (bit-one (p % 64) (q % 64))))
     ∙ word-of row q (p / 64) 0 (λ b. b && not (eqb (q % 64) (p % 64)))
     ∙ and-under (eqb (q / 64) (p / 64)) (eqb (q % 64) (p % 64)) (atPlace row q)
     ∙ ap (λ (b : Bool). atPlace row q && not b) (eqb-place q p)

@@ -60,6 +60,7 @@ bit-low n k = ⊎-elim inside outside (cases-lt k n)
         let q : (2 ^ n - 1) / 2 ^ k ≡ 2 ^ suc m - 1 = ap (λ i. (2 ^ i - 1) / 2 ^ k) (sym e) ∙ ap (λ i. i / 2 ^ k) (ones-split (suc m) k) ∙ high (2 ^ suc m - 1) k (omega (arith, pow-pos k)) in
         let odd : (2 ^ suc m - 1) % 2 ≡ 1 = omega (arith, pow-suc 2 m, pow-pos m) in
         ap (λ i. eqb (i % 2) 1) q ∙ ap (λ i. eqb i 1) odd ∙ sym (lt-ltb k n h)
+
     outside : n ≤ k → bit (2 ^ n - 1) k ≡ ltb k n
     outside h = bit-past (2 ^ n - 1) k (omega (arith, pow-mono h, pow-pos n)) ∙ sym (le-ltb k n h)
 
@@ -72,6 +73,7 @@ bit-one b k = ⊎-elim same (⊎-elim under over) (cases-order k b)
         let p = pow-pos b in
         let q : 2 ^ b / 2 ^ b ≡ 1 = ap (λ n. n / 2 ^ b) (sym (omega arith)) ∙ shl-shr 1 b in
         ap (bit (2 ^ b)) e ∙ ap (λ n. eqb (n % 2) 1) q ∙ sym (eq-eqb k b e)
+
     under : k < b → bit (2 ^ b) k ≡ eqb k b
     under h =
         let m : ℕ = b - suc k in
@@ -79,6 +81,7 @@ bit-one b k = ⊎-elim same (⊎-elim under over) (cases-order k b)
         let q : 2 ^ b / 2 ^ k ≡ 2 ^ suc m = ap (λ i. 2 ^ i / 2 ^ k) (sym e) ∙ ap (λ i. i / 2 ^ k) (pow-add 2 (suc m) k) ∙ shl-shr (2 ^ suc m) k in
         let even : 2 ^ suc m % 2 ≡ 0 = omega (arith, pow-suc 2 m) in
         ap (λ i. eqb (i % 2) 1) q ∙ ap (λ i. eqb i 1) even ∙ sym (ne-eqb k b (λ z. omega arith))
+
     over : b < k → bit (2 ^ b) k ≡ eqb k b
     over h = bit-past (2 ^ b) k (pow-lt h) ∙ sym (ne-eqb k b (λ z. omega arith))
 

@@ -10,4 +10,3 @@ pub enum StoreFault {
     // no table is saved: 13
     NoSave,
 }
-

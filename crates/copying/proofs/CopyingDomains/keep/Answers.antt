@@ -11,44 +11,46 @@ use lib.Dec.{eqb, ltb}
 use lib.ListN.{length, getD, drop}
 use Rattle.std.proofs.shelf.Lists.{length-set}
 use Rattle.std.proofs.shelf.Tests.{le-ltb, cond-true, cond-false, lt-ltb, eq-eqb}
-use Rattle.tables.specs.Tables.{sizeOf, kept}
+use Rattle.tables.specs.Tables.{Table, sizeOf}
 use Rattle.tables.proofs.Counts.{size-none}
-use Rattle.tables.proofs.Keeps.{kept-outside, nothing-outside}
-use Rattle.copying.specs.Memory.{need, rowIn, tableIn, savedIn}
+use Rattle.tables.proofs.Keeps.{kept-is, kept-outside, nothing-outside}
+use Rattle.copying.specs.Memory.{need, rowIn, tableIn, savedIn, narrowed}
 use Rattle.copying.specs.Facts.{table-shaped}
+use Rattle.copying.proofs.Blocks.{frame-is}
 use Rattle.copying.proofs.Meets.{lost, gone, lost-more, gone-more}
-use Rattle.copying.proofs.Narrowed.{Met, met-more, read-word, narrowed, is-narrowed, keeps-table, keeps-saved, keeps-spare, shrinks, empties}
+use Rattle.copying.proofs.Narrowed.{Met, met-more, read-word, met-words, is-narrowed, keeps-table, keeps-saved, keeps-spare, shrinks, empties}
 use Rattle.copying.proofs.CopyingDomains.keep.Needs as needs-of
 
 pub returns-then-x-self : needs-of.returns-then-x-self
 returns-then-x-self c =
     let s = c .args .self .now in
+    let t = tableIn (s .n) 0 (now (s .words)) in
     let shaped = table-shaped (s .n) 0 (now (s .words)) in
     let out = c .if-x-self .taken in
-    record
-    { after = kept-outside (s .n) (c .args .x) (c .args .row) (tableIn (s .n) 0 (now (s .words))) shaped out
-    ; smaller = sym (le-ltb _ _ (omega arith))
-    ; empty = sym (eq-eqb _ _ (size-none (tableIn (s .n) 0 (now (s .words)) (c .args .x)) (λ v h. nothing-outside (s .n) (tableIn (s .n) 0 (now (s .words))) shaped (c .args .x) out v)))
-    ; same-saved = refl
-    ; same-vars = refl
-    ; same-most = refl
-    ; same-anchors = refl
-    ; same-spare = refl
-    ; outside = λ h. refl
-    ; memory = sym (cond-false (ltb (c .args .x) (s .n)) _ _ (le-ltb (c .args .x) (s .n) out))
-    ; same-depth = refl }
+    let none : sizeOf (t (c .args .x)) ≡ 0 = size-none (t (c .args .x)) (λ v h. nothing-outside (s .n) t shaped (c .args .x) out v) in
+    record {
+      after = kept-outside (s .n) (c .args .x) (c .args .row) t shaped out;
+      answer = kept-is _ _ (sym (le-ltb _ _ (omega arith))) (sym (eq-eqb _ _ none));
+      same-saved = refl;
+      same-frame = refl;
+      outside = λ h. refl;
+      memory = (sym (cond-false (ltb (c .args .x) (s .n)) _ _ (le-ltb (c .args .x) (s .n) out)), refl);
+    }
 
 pub loop-k-again : needs-of.loop-k-again
 loop-k-again c =
     let inv = c .loop-k .inv in
-    let before = read-word (16 * c .args .x) (c .loop-k .k) (now (c .args .self .now .words)) (c .args .row) (now (c .loop-k .self .words)) (c .loop-k-test .taken) (inv .5) in
-    (inv .0, inv .1, inv .2,
-     length-set (now (c .loop-k .self .words)) _ _ ∙ inv .3,
-     inv .4,
-     met-more (16 * c .args .x) (c .loop-k .k) (now (c .args .self .now .words)) (c .args .row) (now (c .loop-k .self .words)) (search needs) (inv .5),
-     ap₂ (λ (t : Bool) (w : ℕ). t || not (eqb (bitAnd w (getD (c .args .row) (c .loop-k .k) 0)) w)) (inv .6) before ∙ sym (lost-more _ (c .args .row) (c .loop-k .k)),
-     ap₂ (λ (t : Bool) (w : ℕ). t && eqb (bitAnd w (getD (c .args .row) (c .loop-k .k) 0)) 0) (inv .7) before ∙ sym (gone-more _ (c .args .row) (c .loop-k .k)),
-     below-more _ _ (inv .8) (subst (λ w. w < 2 ^ 64) before (search needs)))
+    let before = read-word (16 * c .args .x) (c .loop-k .k) (now (c .args .self .now .words)) (c .args .row) (now (c .loop-k .self .words)) (c .loop-k-test .taken) (inv .5) in (
+      inv .0,
+      inv .1,
+      inv .2,
+      length-set (now (c .loop-k .self .words)) _ _ ∙ inv .3,
+      inv .4,
+      met-more (16 * c .args .x) (c .loop-k .k) (now (c .args .self .now .words)) (c .args .row) (now (c .loop-k .self .words)) (search needs) (inv .5),
+      ap₂ (λ (t : Bool) (w : ℕ). t || not (eqb (bitAnd w (getD (c .args .row) (c .loop-k .k) 0)) w)) (inv .6) before ∙ sym (lost-more _ (c .args .row) (c .loop-k .k)),
+      ap₂ (λ (t : Bool) (w : ℕ). t && eqb (bitAnd w (getD (c .args .row) (c .loop-k .k) 0)) 0) (inv .7) before ∙ sym (gone-more _ (c .args .row) (c .loop-k .k)),
+      below-more _ _ (inv .8) (subst (λ w. w < 2 ^ 64) before (search needs)),
+    )
 
 pub returns : needs-of.returns
 returns c =
@@ -63,16 +65,16 @@ returns c =
     let full : c .loop-k .k ≡ 16 = omega arith in
     let fits : (j : ℕ) → j < 16 → getD (rowIn (16 * x) ws) j 0 < 2 ^ 64 = λ j h. inv .8 j (omega arith) in
     let fits′ : (j : ℕ) → j < 16 → getD row j 0 < 2 ^ 64 = λ j h. search needs in
-    let mem : us ≡ narrowed x row ws = is-narrowed (s .n) (s .most) x ws row below (s .room) wide us (inv .3) (subst (λ m. Met (16 * x) m ws row us) full (inv .5)) in
-    record
-    { after = ap₂ (λ n us. tableIn n 0 us) (inv .0) mem ∙ keeps-table (s .n) (s .most) x ws row below (s .room) wide
-    ; smaller = inv .6 ∙ ap (lost (rowIn (16 * x) ws) row) full ∙ shrinks (s .n) (s .most) x ws row below (s .room) wide fits fits′ ∙ sym (ap₂ (λ n us. ltb (sizeOf (tableIn n 0 us x)) (sizeOf (tableIn (s .n) 0 ws x))) (inv .0) mem)
-    ; empty = inv .7 ∙ ap (gone (rowIn (16 * x) ws) row) full ∙ empties (s .n) (s .most) x ws row below (s .room) wide fits fits′ ∙ sym (ap₂ (λ n us. eqb (sizeOf (tableIn n 0 us x)) 0) (inv .0) mem)
-    ; same-saved = ap₂ (λ n d. savedIn n d us) (inv .0) (inv .2) ∙ ap (savedIn (s .n) (s .depth)) mem ∙ keeps-saved (s .n) (s .most) x ws row below (s .room) wide (s .depth) (s .within)
-    ; same-vars = inv .0
-    ; same-most = inv .1
-    ; same-anchors = ap (λ a. a ∷ []) (inv .4)
-    ; same-spare = ap₂ (λ n m. drop (need n m) us) (inv .0) (inv .1) ∙ ap (drop (need (s .n) (s .most))) mem ∙ keeps-spare (s .n) (s .most) x ws row below (s .room) wide
-    ; outside = λ h. absurd (omega arith)
-    ; memory = mem ∙ sym (cond-true (ltb x (s .n)) _ _ (lt-ltb x (s .n) below))
-    ; same-depth = inv .2 }
+    let mem : us ≡ met-words x row ws = is-narrowed (s .n) (s .most) x ws row below (s .room) wide us (inv .3) (subst (λ m. Met (16 * x) m ws row us) full (inv .5)) in
+    let is : narrowed (s .n) x row ws ≡ met-words x row ws = cond-true (ltb x (s .n)) _ _ (lt-ltb x (s .n) below) in
+    let table = ap₂ (λ n us. tableIn n 0 us) (inv .0) mem in
+    record {
+      after = table ∙ keeps-table (s .n) (s .most) x ws row below (s .room) wide;
+      answer = kept-is _ _
+          (inv .6 ∙ ap (lost (rowIn (16 * x) ws) row) full ∙ shrinks (s .n) (s .most) x ws row below (s .room) wide fits fits′ ∙ sym (ap (λ (t : Table). ltb (sizeOf (t x)) (sizeOf (tableIn (s .n) 0 ws x))) table))
+          (inv .7 ∙ ap (gone (rowIn (16 * x) ws) row) full ∙ empties (s .n) (s .most) x ws row below (s .room) wide fits fits′ ∙ sym (ap (λ (t : Table). eqb (sizeOf (t x)) 0) table));
+      same-saved = ap₂ (λ n d. savedIn n d us) (inv .0) (inv .2) ∙ ap (savedIn (s .n) (s .depth)) mem ∙ keeps-saved (s .n) (s .most) x ws row below (s .room) wide (s .depth) (s .within);
+      same-frame = frame-is us ws (inv .0) (inv .1) (inv .4) (ap (drop (need (s .n) (s .most))) mem ∙ keeps-spare (s .n) (s .most) x ws row below (s .room) wide);
+      outside = λ h. absurd (omega arith);
+      memory = (mem ∙ sym is, inv .2);
+    }

@@ -12,6 +12,7 @@ returns c =
     let fits = c .fits .upto in
     let s = c .args .self .now in
     let found : Last (inRow (now (c .row .result))) (c .args .upto) (c .last .result) = simp toZ-ofZ at (c .last .ensures) in
-    record
-    { value = subst (λ (d : Domain). Last d (c .args .upto) (c .last .result)) (ap inRow (c .row .ensures) ∙ domain-is (s .n) (c .args .x) (now (s .words))) found
-    ; bounds = last-bounds (now (c .row .result)) (c .args .upto) (c .last .result) found }
+    record {
+      value = subst (λ (d : Domain). Last d (c .args .upto) (c .last .result)) (ap inRow (c .row .ensures) ∙ domain-is (s .n) (c .args .x) (now (s .words))) found;
+      bounds = last-bounds (now (c .row .result)) (c .args .upto) (c .last .result) found;
+    }

@@ -12,6 +12,7 @@ returns c =
     let fits = c .fits .from in
     let s = c .args .self .now in
     let found : Next (inRow (now (c .row .result))) (c .args .from) (c .next .result) = simp toZ-ofZ at (c .next .ensures) in
-    record
-    { value = subst (λ (d : Domain). Next d (c .args .from) (c .next .result)) (ap inRow (c .row .ensures) ∙ domain-is (s .n) (c .args .x) (now (s .words))) found
-    ; bounds = next-bounds (now (c .row .result)) (c .args .from) (c .next .result) found }
+    record {
+      value = subst (λ (d : Domain). Next d (c .args .from) (c .next .result)) (ap inRow (c .row .ensures) ∙ domain-is (s .n) (c .args .x) (now (s .words))) found;
+      bounds = next-bounds (now (c .row .result)) (c .args .from) (c .next .result) found;
+    }

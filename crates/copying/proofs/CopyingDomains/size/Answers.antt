@@ -13,6 +13,7 @@ returns c =
     let s = c .args .self .now in
     let is = c .size .ensures in
     let bound = size-bound (inRow (now (c .row .result))) in
-    record
-    { value = is ∙ ap (λ row. sizeOf (inRow row)) (c .row .ensures) ∙ ap sizeOf (domain-is (s .n) (c .args .x) (now (s .words)))
-    ; bound = omega arith }
+    record {
+      value = is ∙ ap (λ row. sizeOf (inRow row)) (c .row .ensures) ∙ ap sizeOf (domain-is (s .n) (c .args .x) (now (s .words)));
+      bound = omega arith;
+    }

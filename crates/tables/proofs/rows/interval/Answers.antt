@@ -34,14 +34,15 @@ under true b d f = f refl
 under false b d f = refl
 
 pub loop-j-again : need.loop-j-again
-loop-j-again c =
-    (length-set (c .loop-j .row) (c .loop-j .j) _ ∙ c .loop-j .inv .0,
-     below-more _ _
-     (λ i h k l. let ne : i ≢ c .loop-j .j = omega arith in ap (λ w. bit w k) (getD-set-other (c .loop-j .row) (c .loop-j .j) i _ 0 ne) ∙ c .loop-j .inv .1 i h k l)
-     (λ k l. ap (λ w. bit w k) (getD-set-same (c .loop-j .row) (c .loop-j .j) _ 0 (omega arith))
-       ∙ word (c .low-bits .result) (c .low-bits-in-loop-j .result) (c .loop-j .j) k (c .places-below-start .result) (c .places-upto-end .result) l (c .low-bits-in-loop-j .ok)
-         (c .low-bits .ensures k l ∙ ap (ltb k) (c .saturating-sub .ensures))
-         (c .low-bits-in-loop-j .ensures k l ∙ ap (ltb k) (c .saturating-sub-in-loop-j .ensures))))
+loop-j-again c = (
+  length-set (c .loop-j .row) (c .loop-j .j) _ ∙ c .loop-j .inv .0,
+  below-more _ _
+      (λ i h k l. let ne : i ≢ c .loop-j .j = omega arith in ap (λ w. bit w k) (getD-set-other (c .loop-j .row) (c .loop-j .j) i _ 0 ne) ∙ c .loop-j .inv .1 i h k l)
+      (λ k l. ap (λ w. bit w k) (getD-set-same (c .loop-j .row) (c .loop-j .j) _ 0 (omega arith))
+      ∙ word (c .low-bits .result) (c .low-bits-in-loop-j .result) (c .loop-j .j) k (c .places-below-start .result) (c .places-upto-end .result) l (c .low-bits-in-loop-j .ok)
+      (c .low-bits .ensures k l ∙ ap (ltb k) (c .saturating-sub .ensures))
+      (c .low-bits-in-loop-j .ensures k l ∙ ap (ltb k) (c .saturating-sub-in-loop-j .ensures))),
+)
 
 not-under : (u v : ℤ) → not (ltZ u v) ≡ leZ v u
 not-under u v = grind (arith, ints)
@@ -59,6 +60,6 @@ returns c v =
     let full : c .loop-j .j ≡ 16 = omega arith in
     row-by-words (c .loop-j .row) (λ p. ltb p (c .places-upto-end .result) && not (ltb p (c .places-below-start .result))) (λ j k h l. c .loop-j .inv .1 j (omega arith) k l) v
     ∙ under (isValue v) _ _ (λ h.
-        ap₂ (λ (a b : Bool). a && not b) (simp toZ-ofZ at (c .places-upto-end .ensures .test v h)) (simp toZ-ofZ at (c .places-below-start .ensures .test v h))
-        ∙ ap (λ (b : Bool). leZ v (c .args .hi) && b) (not-under v (c .args .lo))
-        ∙ swap (leZ v (c .args .hi)) (leZ (c .args .lo) v))
+    ap₂ (λ (a b : Bool). a && not b) (simp toZ-ofZ at (c .places-upto-end .ensures .test v h)) (simp toZ-ofZ at (c .places-below-start .ensures .test v h))
+    ∙ ap (λ (b : Bool). leZ v (c .args .hi) && b) (not-under v (c .args .lo))
+    ∙ swap (leZ v (c .args .hi)) (leZ (c .args .lo) v))

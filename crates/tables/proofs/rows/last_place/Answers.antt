@@ -19,14 +19,15 @@ loop-j-holds c = (omega arith, omega arith, λ p h l. at-past (c .args .row .now
 -- the highest place of word j, where the words above have none
 found : (row : List ℕ) (j k end : ℕ) → getD row j 0 < 2 ^ 64 → Final (bit (getD row j 0)) (end - 64 * j) (Some k) → ((p : ℕ) → 64 * (j + 1) ≤ p → p < end → atPlace row p ≡ false) → Final (atPlace row) end (Some (64 * j + k))
 found row j k end b f above =
-    let l : k < 64 = bit-below 64 (getD row j 0) k b (f .1) in
-    (omega (arith, f .0),
-     at-word row j k l ∙ f .1,
-     λ p h e.
-       ⊎-elim
-       (λ low. let s : 64 * j + (p - 64 * j) ≡ p = omega arith in ap (atPlace row) (sym s) ∙ at-word row j (p - 64 * j) (omega arith) ∙ f .2 (p - 64 * j) (omega arith) (omega arith))
-       (λ high. above p high e)
-       (cases-lt p (64 * (j + 1))))
+    let l : k < 64 = bit-below 64 (getD row j 0) k b (f .1) in (
+      omega (arith, f .0),
+      at-word row j k l ∙ f .1,
+      λ p h e.
+          ⊎-elim
+          (λ low. let s : 64 * j + (p - 64 * j) ≡ p = omega arith in ap (atPlace row) (sym s) ∙ at-word row j (p - 64 * j) (omega arith) ∙ f .2 (p - 64 * j) (omega arith) (omega arith))
+          (λ high. above p high e)
+          (cases-lt p (64 * (j + 1))),
+    )
 
 pub returns-in-Some : need.returns-in-Some
 returns-in-Some c =
