@@ -24,7 +24,7 @@ use Rattle.tables.proofs.Places.{value-at, place-at, in-row-at, place-is, valu
 pub value-of : (p : ℕ) → p < 1024 → valueAt p ≡ toZ w32 (ofZ w32 (toZ w32 p -ℤ pos 512))
 value-of p h = omega (arith, ints)
 
-not-less : (u v : ℤ) → ltZ u v ≡ false → v ≤ℤ u
+pub not-less : (u v : ℤ) → ltZ u v ≡ false → v ≤ℤ u
 not-less u v h = grind (arith, ints)
 
 less-false : (u v : ℤ) → v ≤ℤ u → ltZ u v ≡ false

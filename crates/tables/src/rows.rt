@@ -79,7 +79,7 @@ fn low_bits(n: usize) -> u64
 // How many places lie below a number.
 fn places_below(v: i32) -> usize
     ensures small { λ r. ⌜ r ≤ 1024 ⌝ }
-    ensures test { λ r. ⌜ ((u : ℤ) → isValue u ≡ true → ltb (place u) r ≡ ltZ u v) ⌝ }
+    ensures tells { λ r. ⌜ ((u : ℤ) → isValue u ≡ true → ltb (place u) r ≡ ltZ u v) ⌝ }
 {
     (v.clamp(-512, 512) + 512) as usize
 }
@@ -87,7 +87,7 @@ fn places_below(v: i32) -> usize
 // How many places lie at or below a number.
 fn places_upto(v: i32) -> usize
     ensures small { λ r. ⌜ r ≤ 1024 ⌝ }
-    ensures test { λ r. ⌜ ((u : ℤ) → isValue u ≡ true → ltb (place u) r ≡ leZ u v) ⌝ }
+    ensures tells { λ r. ⌜ ((u : ℤ) → isValue u ≡ true → ltb (place u) r ≡ leZ u v) ⌝ }
 {
     (v.clamp(-513, 511) + 513) as usize
 }

@@ -60,6 +60,6 @@ returns c v =
     let full : c .loop-j .j ≡ 16 = omega arith in
     row-by-words (c .loop-j .row) (λ p. ltb p (c .places-upto-end .result) && not (ltb p (c .places-below-start .result))) (λ j k h l. c .loop-j .inv .1 j (omega arith) k l) v
     ∙ under (isValue v) _ _ (λ h.
-    ap₂ (λ (a b : Bool). a && not b) (simp toZ-ofZ at (c .places-upto-end .ensures .test v h)) (simp toZ-ofZ at (c .places-below-start .ensures .test v h))
+    ap₂ (λ (a b : Bool). a && not b) (simp toZ-ofZ at (c .places-upto-end .ensures .tells v h)) (simp toZ-ofZ at (c .places-below-start .ensures .tells v h))
     ∙ ap (λ (b : Bool). leZ v (c .args .hi) && b) (not-under v (c .args .lo))
     ∙ swap (leZ v (c .args .hi)) (leZ (c .args .lo) v))

@@ -12,4 +12,4 @@ returns-in-Some c =
     let small = c .places-upto .ensures .small in
     let found = c .in-Some .ensures tt in
     subst (Greatest (inRow (c .args .row .now)) (c .args .upto)) (value-of (c .in-Some .p) (omega (arith, found .0)))
-    (last-value (c .args .row .now) (c .args .upto) (c .places-upto .result) (c .in-Some .p) small (simp toZ-ofZ at (c .places-upto .ensures .test)) found)
+    (last-value (c .args .row .now) (c .args .upto) (c .places-upto .result) (c .in-Some .p) small (simp toZ-ofZ at (c .places-upto .ensures .tells)) found)

@@ -10,4 +10,4 @@ returns-in-Some c =
     let fits = c .fits .from in
     let found = c .in-Some .ensures tt in
     subst (Least (inRow (c .args .row .now)) (c .args .from)) (value-of (c .in-Some .p) (found .1))
-    (next-value (c .args .row .now) (c .args .from) (c .places-below .result) (c .in-Some .p) (simp toZ-ofZ at (c .places-below .ensures .test)) found)
+    (next-value (c .args .row .now) (c .args .from) (c .places-below .result) (c .in-Some .p) (simp toZ-ofZ at (c .places-below .ensures .tells)) found)

@@ -1,0 +1,50 @@
+// What a caller knows of the words that it lent, and the edges of every limit, which the tests run.
+ghost use mathlib.Core.Path.{_≡_};
+ghost use Prim.Native.Nat.{ℕ, _+_, _*_, _≤_};
+ghost use mathlib.Core.Bool.{not};
+ghost use lib.Dec.{eqb};
+ghost use Rattle.std.specs.Results.{Cases};
+ghost use Rattle.tables.specs.declared.fault.StoreFault.the-variants.{Full};
+ghost use lib.ListN.{length, drop};
+ghost use Rattle.copying.specs.Memory.{need, tableIn, narrowed};
+ghost use Rattle.tables.specs.Tables.{kept, sizeOf};
+use copying::Copying;
+use copying::CopyingDomains;
+use copying::CopyingLevels;
+use tables::Domains;
+use tables::Levels;
+use tables::Row;
+use tables::StoreFault;
+
+// Whether variable x would have a value left of a row: it is tried behind a save, and taken back. Where no save is granted nothing is tried.
+pub fn try_out<S: Levels>(store: &mut S, x: usize, row: Row) -> Result<bool, StoreFault>
+    ensures same_table { λ _. ⌜ S·Domains .table (now (store .exit)) ≡ S·Domains .table (now (store .entry)) ⌝ }
+    ensures same_saved { λ _. ⌜ S·Domains .saved (now (store .exit)) ≡ S·Domains .saved (now (store .entry)) ⌝ }
+    ensures same_frame { λ _. ⌜ S·Domains .frame (now (store .exit)) ≡ S·Domains .frame (now (store .entry)) ⌝ }
+    ensures answer { λ r. ⌜ Cases r (λ some. some ≡ not (eqb (sizeOf (kept x row (S·Domains .table (now (store .entry))) x)) 0)) (λ e. e ≡ Full) ⌝ }
+{
+    store.save()?;
+    let kept = store.keep(x, row);
+    store.restore()?;
+    Ok(!kept.empty)
+}
+
+// Keeps a row at a variable of any store.
+pub fn keep_at<S: Domains>(store: &mut S, x: usize, row: Row) -> bool
+    ensures after { λ _. ⌜ S·Domains .table (now (store .exit)) ≡ kept x row (S·Domains .table (now (store .entry))) ⌝ }
+    ensures same_frame { λ _. ⌜ S·Domains .frame (now (store .exit)) ≡ S·Domains .frame (now (store .entry)) ⌝ }
+{
+    store.keep(x, row).smaller
+}
+
+// Whoever lent the words knows them after a call that is proved for any store: the table that they hold, and the words past the need.
+pub fn lend(words: &mut [u64], x: usize, row: Row) -> bool
+    ensures table { λ _. ⌜ (need 3 2 ≤ length (now (words .entry)) → tableIn 3 0 (now (words .exit)) ≡ kept x row (tableIn 3 0 (now (words .entry)))) ⌝ }
+    ensures spare { λ _. ⌜ (need 3 2 ≤ length (now (words .entry)) → drop (need 3 2) (now (words .exit)) ≡ drop (need 3 2) (now (words .entry))) ⌝ }
+{
+    let mut store = Copying::new(words, 3, 2);
+    keep_at(&mut store, x, row)
+}
+
+#[cfg(test)]
+mod tests;
