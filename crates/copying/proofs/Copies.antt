@@ -4,8 +4,7 @@ use mathlib.Core.Bool.{Bool, true, false, cond, _&&_}
 use mathlib.Core.List.{List, [], _∷_}
 use mathlib.Core.Logic.{_⊎_, inl, inr, ⊎-elim}
 use Prim.Native.Nat.{ℕ, zero, suc, _+_, _-_, _*_, _≤_, _<_}
-use native.Mathlib.Nat.{mul-add, zero-add}
-use native.Mathlib.Numerals.{add-one}
+use native.Mathlib.Nat.{mul-add}
 use native.Mathlib.Omega.{arith}
 use lib.Dec.{leb, ltb}
 use lib.ListN.{length, getD, set, take, drop}
@@ -14,8 +13,8 @@ use Rattle.std.proofs.shelf.Lists.{getD-set-same, getD-set-other, getD-take, ge
 use Rattle.std.proofs.shelf.Tests.{cases-lt, cases-eq, lt-ltb, le-leb}
 use Rattle.std.proofs.shelf.Ways.{tells}
 use Rattle.tables.specs.Tables.{Table}
-use Rattle.copying.specs.Memory.{need, rowIn, tableIn, savedIn, written, saveWords, restoreWords}
-use Rattle.copying.proofs.Blocks.{row-ext, table-ext, saved-ext, is-written, row-beside, row-inside, drop-written, row-room, row-apart}
+use Rattle.copying.specs.Memory.{need, rowIn, tableIn, savedIn, written, copied}
+use Rattle.copying.proofs.Blocks.{row-ext, table-ext, saved-ext, is-written, row-beside, row-inside, drop-written, row-room}
 
 -- the words vs are ws with m words from the place `from` on written over those from `to` on
 abbrev pub Copied : ℕ → ℕ → ℕ → List ℕ → List ℕ → Type 0
@@ -68,6 +67,10 @@ block-room n b m h = let p : n * (b + 1) ≤ n * (m + 1) = mul-le n (b + 1) n (m
 pub block-apart : (n b d : ℕ) → b < d → 16 * (n * b) + 16 * n ≤ 16 * (n * d)
 block-apart n b d h = let p : n * (b + 1) ≤ n * d = mul-le n (b + 1) n d (omega arith) (omega arith) in omega (arith, mul-add n b 1)
 
+-- two tables lie apart
+pub blocks-apart : (n a b : ℕ) → (a ≡ b → ⊥) → (16 * (n * a) + 16 * n ≤ 16 * (n * b)) ⊎ (16 * (n * b) + 16 * n ≤ 16 * (n * a))
+blocks-apart n a b ne = ⊎-elim (λ l. inl (block-apart n a b l)) (λ g. inr (block-apart n b a (omega (arith, ne)))) (cases-lt a b)
+
 -- a row of a block that is cut out of the words
 row-cut : (p m k : ℕ) (ws : List ℕ) → p + m ≤ length ws → k + 16 ≤ m → rowIn k (take m (drop p ws)) ≡ rowIn (p + k) ws
 row-cut p m k ws h l =
@@ -75,82 +78,38 @@ row-cut p m k ws h l =
     row-ext (take m (drop p ws)) ws k (p + k) (omega arith) (omega arith)
     (λ i q. let s : p + k + i ≡ p + (k + i) = omega arith in getD-take m (drop p ws) (k + i) 0 (omega arith) ∙ getD-drop p ws (k + i) 0 ∙ ap (λ j. getD ws j 0) (sym s))
 
-module _ (n most : ℕ) (ws : List ℕ) (room : need n most ≤ length ws) where
-  -- the table that is copied has its words
-  cut-length : (b : ℕ) → b ≤ most → length (take (16 * n) (drop (16 * (n * b)) ws)) ≡ 16 * n
-  cut-length b h = let p = block-room n b most h in simp (length-take, length-drop) (omega arith)
+module _ (n most : ℕ) (ws : List ℕ) (room : need n most ≤ length ws) (a b : ℕ) (from : a ≤ most) (to : b ≤ most) where
+  cut : length (take (16 * n) (drop (16 * (n * a)) ws)) ≡ 16 * n
+  cut = let p = block-room n a most from in simp (length-take, length-drop) (omega arith)
 
-  -- ---- a save
+  over : 16 * (n * b) + length (take (16 * n) (drop (16 * (n * a)) ws)) ≤ length ws
+  over = omega (arith, cut, block-room n b most to)
 
-  module _ (depth : ℕ) (below : depth < most) where
-    saved-length : length (take (16 * n) ws) ≡ 16 * n
-    saved-length = let p = block-room n 0 most (omega arith) in simp length-take (omega arith)
+  -- the table that is written has the rows of the other
+  pub table-copied : tableIn n b (copied n a b ws) ≡ tableIn n a ws
+  table-copied =
+      table-ext n b a (copied n a b ws) ws (λ x l.
+          let e : 16 * (n * b + x) ≡ 16 * (n * b) + 16 * x = omega arith in
+          let f : 16 * (n * a) + 16 * x ≡ 16 * (n * a + x) = omega arith in
+          let c = cut in
+          let p = block-room n a most from in
+          ap (λ i. rowIn i (copied n a b ws)) e
+          ∙ row-inside (16 * (n * b)) (take (16 * n) (drop (16 * (n * a)) ws)) ws (16 * x) over (omega arith)
+          ∙ row-cut (16 * (n * a)) (16 * n) (16 * x) ws (omega arith) (omega arith)
+          ∙ ap (λ i. rowIn i ws) f)
 
-    saved-over : 16 * (n * (depth + 1)) + length (take (16 * n) ws) ≤ length ws
-    saved-over = omega (arith, saved-length, block-room n (depth + 1) most (omega arith))
+  row-apart : (c x : ℕ) → c ≤ most → (c ≡ b → ⊥) → x < n → rowIn (16 * (n * c + x)) (copied n a b ws) ≡ rowIn (16 * (n * c + x)) ws
+  row-apart c x h ne l =
+      let e = cut in
+      row-beside (16 * (n * b)) (take (16 * n) (drop (16 * (n * a)) ws)) ws (16 * (n * c + x)) over (omega (arith, row-room n c most x h l))
+      (⊎-elim (λ u. inl (omega arith)) (λ u. inr (omega arith)) (blocks-apart n c b ne))
 
-    -- the rows of the table and of the older copies lie before the new copy
-    before-save : (b x : ℕ) → b ≤ depth → x < n → rowIn (16 * (n * b + x)) (saveWords n depth ws) ≡ rowIn (16 * (n * b + x)) ws
-    before-save b x h l =
-        let p = row-room n b depth x h l in
-        let q = row-room n b most x (omega arith) l in
-        row-beside (16 * (n * (depth + 1))) (take (16 * n) ws) ws (16 * (n * b + x)) saved-over (omega arith) (inl (omega arith))
+  -- every other table has its own
+  pub table-stays : (c : ℕ) → c ≤ most → (c ≡ b → ⊥) → tableIn n c (copied n a b ws) ≡ tableIn n c ws
+  table-stays c h ne = table-ext n c c (copied n a b ws) ws (λ x l. row-apart c x h ne l)
 
-    -- the new copy has the table's rows
-    in-save : (x : ℕ) → x < n → rowIn (16 * (n * suc depth + x)) (saveWords n depth ws) ≡ rowIn (16 * (n * 0 + x)) ws
-    in-save x l =
-        let d : suc depth ≡ depth + 1 = omega arith in
-        let e : 16 * (n * (depth + 1) + x) ≡ 16 * (n * (depth + 1)) + 16 * x = omega arith in
-        let z : 0 + 16 * x ≡ 16 * (n * 0 + x) = omega arith in
-        let p = block-room n 0 most (omega arith) in
-        let f = saved-length in
-        ap (λ i. rowIn (16 * (n * i + x)) (saveWords n depth ws)) d
-        ∙ ap (λ i. rowIn i (saveWords n depth ws)) e
-        ∙ row-inside (16 * (n * (depth + 1))) (take (16 * n) ws) ws (16 * x) saved-over (omega arith)
-        ∙ row-cut 0 (16 * n) (16 * x) ws (omega arith) (omega arith)
-        ∙ ap (λ i. rowIn i ws) z
+  pub saved-stay : (d : ℕ) → d ≤ most → ((c : ℕ) → 1 ≤ c → c ≤ d → c ≡ b → ⊥) → savedIn n d (copied n a b ws) ≡ savedIn n d ws
+  saved-stay d h ne = saved-ext n d (copied n a b ws) ws (λ c x p q l. row-apart c x (omega arith) (ne c p q) l)
 
-    pub saves-table : tableIn n 0 (saveWords n depth ws) ≡ tableIn n 0 ws
-    saves-table = table-ext n 0 0 (saveWords n depth ws) ws (λ x l. before-save 0 x (omega arith) l)
-
-    pub saves-list : savedIn n (depth + 1) (saveWords n depth ws) ≡ tableIn n 0 ws ∷ savedIn n depth ws
-    saves-list =
-        ap (λ i. savedIn n i (saveWords n depth ws)) (add-one depth)
-        ∙ ap₂ (λ (t : Table) (ts : List Table). t ∷ ts)
-        (table-ext n (suc depth) 0 (saveWords n depth ws) ws in-save)
-        (saved-ext n depth (saveWords n depth ws) ws (λ b x p q l. before-save b x q l))
-
-    pub saves-spare : drop (need n most) (saveWords n depth ws) ≡ drop (need n most) ws
-    saves-spare = drop-written (16 * (n * (depth + 1))) (take (16 * n) ws) ws (need n most) saved-over (omega (arith, saved-length, block-room n (depth + 1) most (omega arith)))
-
-  -- ---- a restore
-
-  module _ (d : ℕ) (within : suc d ≤ most) where
-    restored-over : 0 + length (take (16 * n) (drop (16 * (n * suc d)) ws)) ≤ length ws
-    restored-over = omega (arith, cut-length (suc d) within, block-room n 0 most (omega arith))
-
-    in-restore : (x : ℕ) → x < n → rowIn (16 * (n * 0 + x)) (restoreWords n (suc d) ws) ≡ rowIn (16 * (n * suc d + x)) ws
-    in-restore x l =
-        let e : 16 * (n * 0 + x) ≡ 0 + 16 * x = omega arith in
-        let f : 16 * (n * suc d) + 16 * x ≡ 16 * (n * suc d + x) = omega arith in
-        let c = cut-length (suc d) within in
-        let p = block-room n (suc d) most within in
-        ap (λ i. rowIn i (restoreWords n (suc d) ws)) e
-        ∙ row-inside 0 (take (16 * n) (drop (16 * (n * suc d)) ws)) ws (16 * x) restored-over (omega arith)
-        ∙ row-cut (16 * (n * suc d)) (16 * n) (16 * x) ws (omega arith) (omega arith)
-        ∙ ap (λ i. rowIn i ws) f
-
-    after-restore : (b x : ℕ) → 1 ≤ b → b ≤ d → x < n → rowIn (16 * (n * b + x)) (restoreWords n (suc d) ws) ≡ rowIn (16 * (n * b + x)) ws
-    after-restore b x h g l =
-        let c = cut-length (suc d) within in
-        let p = block-apart n 0 b (omega arith) in
-        row-beside 0 (take (16 * n) (drop (16 * (n * suc d)) ws)) ws (16 * (n * b + x)) restored-over (omega (arith, row-room n b most x (omega arith) l)) (inr (omega arith))
-
-    pub restores-table : tableIn n 0 (restoreWords n (suc d) ws) ≡ tableIn n (suc d) ws
-    restores-table = table-ext n 0 (suc d) (restoreWords n (suc d) ws) ws in-restore
-
-    pub restores-list : savedIn n d (restoreWords n (suc d) ws) ≡ savedIn n d ws
-    restores-list = saved-ext n d (restoreWords n (suc d) ws) ws after-restore
-
-    pub restores-spare : drop (need n most) (restoreWords n (suc d) ws) ≡ drop (need n most) ws
-    restores-spare = drop-written 0 (take (16 * n) (drop (16 * (n * suc d)) ws)) ws (need n most) restored-over (omega (arith, cut-length (suc d) within, block-room n 0 most (omega arith)))
+  pub spare-stays : drop (need n most) (copied n a b ws) ≡ drop (need n most) ws
+  spare-stays = drop-written (16 * (n * b)) (take (16 * n) (drop (16 * (n * a)) ws)) ws (need n most) over (omega (arith, cut, block-room n b most to))

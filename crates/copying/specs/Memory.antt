@@ -56,13 +56,9 @@ meet (w ∷ words) (r ∷ row) = bitAnd w r ∷ meet words row
 abbrev pub narrowed : ℕ → ℕ → List ℕ → List ℕ → List ℕ
 narrowed n x row words = cond (ltb x n) (written (16 * x) (meet (rowIn (16 * x) words) row) words) words
 
--- the words after a save, where `depth` tables were saved
-abbrev pub saveWords : ℕ → ℕ → List ℕ → List ℕ
-saveWords n depth words = written (16 * (n * (depth + 1))) (take (16 * n) words) words
-
--- the words after a restore, where `depth` tables were saved
-abbrev pub restoreWords : ℕ → ℕ → List ℕ → List ℕ
-restoreWords n depth words = written 0 (take (16 * n) (drop (16 * (n * depth)) words)) words
+-- the words with those of table number `from` written over those of table number `to`
+abbrev pub copied : ℕ → ℕ → ℕ → List ℕ → List ℕ
+copied n from to words = written (16 * (n * to)) (take (16 * n) (drop (16 * (n * from)) words)) words
 
 -- what no call changes
 abbrev pub frameOf : ℕ → ℕ → ℕ → List ℕ → Frame

@@ -8,7 +8,7 @@ ghost use denote.Ref.{now as held, name};
 ghost use Rattle.std.specs.Results.{Cases, isOk};
 ghost use Rattle.tables.specs.Stores.{answerKeep, answerSave, answerRestore, newest, older};
 ghost use Rattle.tables.specs.Tables.{kept};
-ghost use Rattle.copying.specs.Memory.{need, fits, answerCheck, domainIn, tableIn, savedIn, frameOf, narrowed, saveWords, restoreWords};
+ghost use Rattle.copying.specs.Memory.{need, fits, answerCheck, domainIn, tableIn, savedIn, frameOf, narrowed, copied};
 ghost use Rattle.copying.specs.Facts.{table-shaped, saved-shaped, saved-within};
 use tables::Domains;
 use tables::Kept;
@@ -75,6 +75,23 @@ impl<'a> Copying<'a> {
         }
         let at = 16 * x;
         &self.words[at..at + 16]
+    }
+
+    // Writes the words of table number `from` over those of table number `to`; the table itself is number 0.
+    fn copy(&mut self, from: usize, to: usize)
+        requires from_within { ⌜ from ≤ now self .most ⌝ }
+        requires to_within { ⌜ to ≤ now self .most ⌝ }
+        requires apart { ⌜ (from ≡ to → ⊥) ⌝ }
+        ensures words { λ _. ⌜ now (now (self .exit) .words) ≡ copied (now (self .entry) .n) from to (now (now (self .entry) .words)) ⌝ }
+        ensures lent { λ _. ⌜ name (now (self .exit) .words) ≡ name (now (self .entry) .words) ⌝ }
+        ensures sizes { λ _. ⌜ (now (self .exit) .n ≡ now (self .entry) .n) × (now (self .exit) .most ≡ now (self .entry) .most) × (now (self .exit) .depth ≡ now (self .entry) .depth) ⌝ }
+    {
+        let len = 16 * self.n;
+        let source = 16 * (self.n * from);
+        let target = 16 * (self.n * to);
+        for k in 0..len {
+            self.words[target + k] = self.words[source + k];
+        }
     }
 }
 
@@ -152,16 +169,12 @@ pub impl<'a> Levels for Copying<'a> as CopyingLevels {
         ensures same_table { λ _. ⌜ tableIn (now (self .exit) .n) 0 (now (now (self .exit) .words)) ≡ tableIn (now (self .entry) .n) 0 (now (now (self .entry) .words)) ⌝ }
         ensures same_frame { λ _. ⌜ frameOf (now (self .exit) .n) (now (self .exit) .most) (name (now (self .exit) .words)) (now (now (self .exit) .words)) ≡ frameOf (now (self .entry) .n) (now (self .entry) .most) (name (now (self .entry) .words)) (now (now (self .entry) .words)) ⌝ }
         ensures refused { λ r. ⌜ Cases r (λ _. Unit {0}) (λ _. now (self .exit) ≡ now (self .entry)) ⌝ }
-        ensures memory { λ r. ⌜ (now (now (self .exit) .words) ≡ cond (isOk r) (saveWords (now (self .entry) .n) (now (self .entry) .depth) (now (now (self .entry) .words))) (now (now (self .entry) .words))) × (now (self .exit) .depth ≡ cond (isOk r) (now (self .entry) .depth + 1) (now (self .entry) .depth)) ⌝ }
+        ensures memory { λ r. ⌜ (now (now (self .exit) .words) ≡ cond (isOk r) (copied (now (self .entry) .n) 0 (now (self .entry) .depth + 1) (now (now (self .entry) .words))) (now (now (self .entry) .words))) × (now (self .exit) .depth ≡ cond (isOk r) (now (self .entry) .depth + 1) (now (self .entry) .depth)) ⌝ }
     {
         if self.depth >= self.most {
             return Err(StoreFault::Full);
         }
-        let len = 16 * self.n;
-        let to = 16 * (self.n * (self.depth + 1));
-        for k in 0..len {
-            self.words[to + k] = self.words[k];
-        }
+        self.copy(0, self.depth + 1);
         self.depth += 1;
         Ok(())
     }
@@ -173,16 +186,12 @@ pub impl<'a> Levels for Copying<'a> as CopyingLevels {
         ensures left { λ _. ⌜ savedIn (now (self .exit) .n) (now (self .exit) .depth) (now (now (self .exit) .words)) ≡ older (savedIn (now (self .entry) .n) (now (self .entry) .depth) (now (now (self .entry) .words))) ⌝ }
         ensures same_frame { λ _. ⌜ frameOf (now (self .exit) .n) (now (self .exit) .most) (name (now (self .exit) .words)) (now (now (self .exit) .words)) ≡ frameOf (now (self .entry) .n) (now (self .entry) .most) (name (now (self .entry) .words)) (now (now (self .entry) .words)) ⌝ }
         ensures refused { λ r. ⌜ Cases r (λ _. Unit {0}) (λ _. now (self .exit) ≡ now (self .entry)) ⌝ }
-        ensures memory { λ r. ⌜ (now (now (self .exit) .words) ≡ cond (isOk r) (restoreWords (now (self .entry) .n) (now (self .entry) .depth) (now (now (self .entry) .words))) (now (now (self .entry) .words))) × (now (self .exit) .depth ≡ now (self .entry) .depth - 1) ⌝ }
+        ensures memory { λ r. ⌜ (now (now (self .exit) .words) ≡ cond (isOk r) (copied (now (self .entry) .n) (now (self .entry) .depth) 0 (now (now (self .entry) .words))) (now (now (self .entry) .words))) × (now (self .exit) .depth ≡ now (self .entry) .depth - 1) ⌝ }
     {
         if self.depth == 0 {
             return Err(StoreFault::NoSave);
         }
-        let len = 16 * self.n;
-        let from = 16 * (self.n * self.depth);
-        for k in 0..len {
-            self.words[k] = self.words[from + k];
-        }
+        self.copy(self.depth, 0);
         self.depth -= 1;
         Ok(())
     }

@@ -98,7 +98,7 @@ pub fn interval(lo: i32, hi: i32) -> Row
 {
     let start = places_below(lo);
     let end = places_upto(hi);
-    let mut row = [0; 16];
+    let mut row = none();
     for j in 0..16usize {
         let first = 64 * j;
         row[j] = low_bits(end.saturating_sub(first)) & !low_bits(start.saturating_sub(first));
