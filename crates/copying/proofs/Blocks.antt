@@ -17,7 +17,7 @@ use Rattle.tables.specs.Values.{isValue, place}
 use Rattle.tables.specs.Rows.{bit, atPlace, inRow}
 use Rattle.tables.specs.Tables.{Table, Domain, kept, Shaped, AllShaped}
 use Rattle.tables.proofs.Places.{at-past, place-below}
-use Rattle.copying.specs.Memory.{need, rowIn, domainIn, tableIn, savedIn, written, meet, frameOf}
+use Rattle.copying.specs.Memory.{need, rowIn, domainIn, tableIn, savedIn, written, meet, frameIn}
 
 -- ---- reading
 
@@ -142,6 +142,6 @@ pub row-apart : (n b x y : ℕ) → 1 ≤ b → x < n → 16 * x + 16 ≤ 16 * (
 row-apart n b x y h l = let p : n * 1 ≤ n * b = mul-le n 1 n b (omega arith) h in omega arith
 
 -- the frame by its parts
-pub frame-is : {n n′ m m′ a a′ : ℕ} (us ws : List ℕ) → n ≡ n′ → m ≡ m′ → a ≡ a′ → drop (need n′ m′) us ≡ drop (need n′ m′) ws → frameOf n m a us ≡ frameOf n′ m′ a′ ws
+pub frame-is : {n n′ m m′ a a′ : ℕ} (us ws : List ℕ) → n ≡ n′ → m ≡ m′ → a ≡ a′ → drop (need n′ m′) us ≡ drop (need n′ m′) ws → frameIn n m a us ≡ frameIn n′ m′ a′ ws
 frame-is {n′ = n′} {m′ = m′} {a = a} us ws e f g h =
-    ap₂ (λ n m. frameOf n m a us) e f ∙ ap₂ (λ (b : ℕ) (spare : List ℕ). record { vars = n′; most = m′; anchors = b ∷ []; spare = spare }) g h
+    ap₂ (λ n m. frameIn n m a us) e f ∙ ap₂ (λ (b : ℕ) (spare : List ℕ). record { vars = n′; most = m′; anchors = b ∷ []; spare = spare }) g h

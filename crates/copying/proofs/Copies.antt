@@ -89,14 +89,14 @@ module _ (n most : ℕ) (ws : List ℕ) (room : need n most ≤ length ws) (a b 
   pub table-copied : tableIn n b (copied n a b ws) ≡ tableIn n a ws
   table-copied =
       table-ext n b a (copied n a b ws) ws (λ x l.
-          let e : 16 * (n * b + x) ≡ 16 * (n * b) + 16 * x = omega arith in
-          let f : 16 * (n * a) + 16 * x ≡ 16 * (n * a + x) = omega arith in
-          let c = cut in
-          let p = block-room n a most from in
-          ap (λ i. rowIn i (copied n a b ws)) e
-          ∙ row-inside (16 * (n * b)) (take (16 * n) (drop (16 * (n * a)) ws)) ws (16 * x) over (omega arith)
-          ∙ row-cut (16 * (n * a)) (16 * n) (16 * x) ws (omega arith) (omega arith)
-          ∙ ap (λ i. rowIn i ws) f)
+      let e : 16 * (n * b + x) ≡ 16 * (n * b) + 16 * x = omega arith in
+      let f : 16 * (n * a) + 16 * x ≡ 16 * (n * a + x) = omega arith in
+      let c = cut in
+      let p = block-room n a most from in
+      ap (λ i. rowIn i (copied n a b ws)) e
+      ∙ row-inside (16 * (n * b)) (take (16 * n) (drop (16 * (n * a)) ws)) ws (16 * x) over (omega arith)
+      ∙ row-cut (16 * (n * a)) (16 * n) (16 * x) ws (omega arith) (omega arith)
+      ∙ ap (λ i. rowIn i ws) f)
 
   row-apart : (c x : ℕ) → c ≤ most → (c ≡ b → ⊥) → x < n → rowIn (16 * (n * c + x)) (copied n a b ws) ≡ rowIn (16 * (n * c + x)) ws
   row-apart c x h ne l =

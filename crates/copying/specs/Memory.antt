@@ -61,5 +61,5 @@ abbrev pub copied : ℕ → ℕ → ℕ → List ℕ → List ℕ
 copied n from to words = written (16 * (n * to)) (take (16 * n) (drop (16 * (n * from)) words)) words
 
 -- what no call changes
-abbrev pub frameOf : ℕ → ℕ → ℕ → List ℕ → Frame
-frameOf n most anchor words = record { vars = n; most = most; anchors = anchor ∷ []; spare = drop (need n most) words }
+abbrev pub frameIn : ℕ → ℕ → ℕ → List ℕ → Frame
+frameIn n most anchor words = record { vars = n; most = most; anchors = anchor ∷ []; spare = drop (need n most) words }

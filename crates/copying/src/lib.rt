@@ -1,35 +1,26 @@
 // A store of tables that saves by copying, in words that the caller lends.
 ghost use mathlib.Core.Path.{_≡_};
-ghost use mathlib.Core.Bool.{Bool, true, false, cond};
-ghost use mathlib.Core.List.{List, [], _∷_};
-ghost use Prim.Native.Nat.{ℕ, _+_, _-_, _*_, _<_, _≤_};
-ghost use lib.ListN.{length, take, drop};
-ghost use denote.Ref.{now as held, name};
+ghost use mathlib.Core.Bool.{cond};
+ghost use mathlib.Core.List.{_∷_};
+ghost use Prim.Native.Nat.{_+_, _-_, _≤_};
+ghost use lib.ListN.{length};
+ghost use denote.Ref.{name};
 ghost use Rattle.std.specs.Results.{Cases, isOk};
 ghost use Rattle.tables.specs.Stores.{answerKeep, answerSave, answerRestore, newest, older};
 ghost use Rattle.tables.specs.Tables.{kept};
-ghost use Rattle.copying.specs.Memory.{need, fits, answerCheck, domainIn, tableIn, savedIn, frameOf, narrowed, copied};
+ghost use Rattle.copying.specs.Meaning.{wordsOf, tableOf, savedOf, frameOf};
+ghost use Rattle.copying.specs.Memory.{fits, answerCheck, domainIn, narrowed, copied};
 ghost use Rattle.copying.specs.Facts.{table-shaped, saved-shaped, saved-within};
+
+pub mod store;
+
+pub use store::Copying;
 use tables::Domains;
 use tables::Kept;
 use tables::Levels;
 use tables::Row;
 use tables::StoreFault;
 use tables::rows;
-
-// The table in the first 16 * n words, and the saved ones behind it, the oldest first.
-#[derive(Drop)]
-pub struct Copying<'a> {
-    words: &'a mut [u64],
-    n: usize,
-    most: usize,
-    depth: usize,
-    ghost room: { need n most ≤ length (held words) },
-    ghost few: { n ≤ 256 },
-    ghost some: { 1 ≤ most },
-    ghost low: { most ≤ 16 },
-    ghost within: { depth ≤ most },
-}
 
 impl<'a> Copying<'a> {
     // Whether a store of n variables and at most `most` saved tables can be made in these words.
@@ -68,7 +59,7 @@ impl<'a> Copying<'a> {
 
     // The words of variable x, none where x is not below n.
     fn row(&self, x: usize) -> &[u64]
-        ensures { λ r. ⌜ now r ≡ domainIn (now (self .entry) .n) x (now (now (self .entry) .words)) ⌝ }
+        ensures { λ r. ⌜ now r ≡ domainIn (now (self .entry) .n) x (wordsOf (now (self .entry))) ⌝ }
     {
         if x >= self.n {
             return &self.words[0..0];
@@ -82,7 +73,7 @@ impl<'a> Copying<'a> {
         requires from_within { ⌜ from ≤ now self .most ⌝ }
         requires to_within { ⌜ to ≤ now self .most ⌝ }
         requires apart { ⌜ (from ≡ to → ⊥) ⌝ }
-        ensures words { λ _. ⌜ now (now (self .exit) .words) ≡ copied (now (self .entry) .n) from to (now (now (self .entry) .words)) ⌝ }
+        ensures words { λ _. ⌜ wordsOf (now (self .exit)) ≡ copied (now (self .entry) .n) from to (wordsOf (now (self .entry))) ⌝ }
         ensures lent { λ _. ⌜ name (now (self .exit) .words) ≡ name (now (self .entry) .words) ⌝ }
         ensures sizes { λ _. ⌜ (now (self .exit) .n ≡ now (self .entry) .n) × (now (self .exit) .most ≡ now (self .entry) .most) × (now (self .exit) .depth ≡ now (self .entry) .depth) ⌝ }
     {
@@ -96,21 +87,21 @@ impl<'a> Copying<'a> {
 }
 
 pub impl<'a> Domains for Copying<'a> as CopyingDomains {
-    ghost table = { λ s. tableIn (s .n) 0 (held (s .words)) };
+    ghost table = { tableOf };
 
-    ghost saved = { λ s. savedIn (s .n) (s .depth) (held (s .words)) };
+    ghost saved = { savedOf };
 
-    ghost frame = { λ s. frameOf (s .n) (s .most) (name (s .words)) (held (s .words)) };
+    ghost frame = { frameOf };
 
-    ghost shaped = { λ s. table-shaped (s .n) 0 (held (s .words)) };
+    ghost shaped = { λ s. table-shaped (s .n) 0 (wordsOf s) };
 
-    ghost shapes = { λ s. saved-shaped (s .n) (s .depth) (held (s .words)) };
+    ghost shapes = { λ s. saved-shaped (s .n) (s .depth) (wordsOf s) };
 
     ghost few = { λ s. s .few };
 
     ghost deep = { λ s. (s .some, s .low) };
 
-    ghost within = { λ s. saved-within (s .n) (s .depth) (s .most) (held (s .words)) (s .within) };
+    ghost within = { λ s. saved-within (s .n) (s .depth) (s .most) (wordsOf s) (s .within) };
 
     fn variables(&self) -> usize {
         self.n
@@ -134,12 +125,12 @@ pub impl<'a> Domains for Copying<'a> as CopyingDomains {
 
     // The words of variable x are met with the row's, and no other word is written.
     fn keep(&mut self, x: usize, row: Row) -> Kept
-        ensures after { λ _. ⌜ tableIn (now (self .exit) .n) 0 (now (now (self .exit) .words)) ≡ kept x row (tableIn (now (self .entry) .n) 0 (now (now (self .entry) .words))) ⌝ }
-        ensures answer { λ r. ⌜ r ≡ answerKeep (tableIn (now (self .entry) .n) 0 (now (now (self .entry) .words)) x) (tableIn (now (self .exit) .n) 0 (now (now (self .exit) .words)) x) ⌝ }
-        ensures same_saved { λ _. ⌜ savedIn (now (self .exit) .n) (now (self .exit) .depth) (now (now (self .exit) .words)) ≡ savedIn (now (self .entry) .n) (now (self .entry) .depth) (now (now (self .entry) .words)) ⌝ }
-        ensures same_frame { λ _. ⌜ frameOf (now (self .exit) .n) (now (self .exit) .most) (name (now (self .exit) .words)) (now (now (self .exit) .words)) ≡ frameOf (now (self .entry) .n) (now (self .entry) .most) (name (now (self .entry) .words)) (now (now (self .entry) .words)) ⌝ }
+        ensures after { λ _. ⌜ tableOf (now (self .exit)) ≡ kept x row (tableOf (now (self .entry))) ⌝ }
+        ensures answer { λ r. ⌜ r ≡ answerKeep (tableOf (now (self .entry)) x) (tableOf (now (self .exit)) x) ⌝ }
+        ensures same_saved { λ _. ⌜ savedOf (now (self .exit)) ≡ savedOf (now (self .entry)) ⌝ }
+        ensures same_frame { λ _. ⌜ frameOf (now (self .exit)) ≡ frameOf (now (self .entry)) ⌝ }
         ensures outside { λ _. ⌜ (now (self .entry) .n ≤ x → now (self .exit) ≡ now (self .entry)) ⌝ }
-        ensures memory { λ _. ⌜ (now (now (self .exit) .words) ≡ narrowed (now (self .entry) .n) x row (now (now (self .entry) .words))) × (now (self .exit) .depth ≡ now (self .entry) .depth) ⌝ }
+        ensures memory { λ _. ⌜ (wordsOf (now (self .exit)) ≡ narrowed (now (self .entry) .n) x row (wordsOf (now (self .entry)))) × (now (self .exit) .depth ≡ now (self .entry) .depth) ⌝ }
     {
         if x >= self.n {
             return Kept {
@@ -164,12 +155,12 @@ pub impl<'a> Domains for Copying<'a> as CopyingDomains {
 pub impl<'a> Levels for Copying<'a> as CopyingLevels {
     // The table's words are copied behind the saved ones, and no other word is written.
     fn save(&mut self) -> Result<(), StoreFault>
-        ensures answer { λ r. ⌜ r ≡ answerSave (length (savedIn (now (self .entry) .n) (now (self .entry) .depth) (now (now (self .entry) .words)))) (now (self .entry) .most) ⌝ }
-        ensures noted { λ r. ⌜ savedIn (now (self .exit) .n) (now (self .exit) .depth) (now (now (self .exit) .words)) ≡ cond (isOk r) (tableIn (now (self .entry) .n) 0 (now (now (self .entry) .words)) ∷ savedIn (now (self .entry) .n) (now (self .entry) .depth) (now (now (self .entry) .words))) (savedIn (now (self .entry) .n) (now (self .entry) .depth) (now (now (self .entry) .words))) ⌝ }
-        ensures same_table { λ _. ⌜ tableIn (now (self .exit) .n) 0 (now (now (self .exit) .words)) ≡ tableIn (now (self .entry) .n) 0 (now (now (self .entry) .words)) ⌝ }
-        ensures same_frame { λ _. ⌜ frameOf (now (self .exit) .n) (now (self .exit) .most) (name (now (self .exit) .words)) (now (now (self .exit) .words)) ≡ frameOf (now (self .entry) .n) (now (self .entry) .most) (name (now (self .entry) .words)) (now (now (self .entry) .words)) ⌝ }
+        ensures answer { λ r. ⌜ r ≡ answerSave (length (savedOf (now (self .entry)))) (now (self .entry) .most) ⌝ }
+        ensures noted { λ r. ⌜ savedOf (now (self .exit)) ≡ cond (isOk r) (tableOf (now (self .entry)) ∷ savedOf (now (self .entry))) (savedOf (now (self .entry))) ⌝ }
+        ensures same_table { λ _. ⌜ tableOf (now (self .exit)) ≡ tableOf (now (self .entry)) ⌝ }
+        ensures same_frame { λ _. ⌜ frameOf (now (self .exit)) ≡ frameOf (now (self .entry)) ⌝ }
         ensures refused { λ r. ⌜ Cases r (λ _. Unit {0}) (λ _. now (self .exit) ≡ now (self .entry)) ⌝ }
-        ensures memory { λ r. ⌜ (now (now (self .exit) .words) ≡ cond (isOk r) (copied (now (self .entry) .n) 0 (now (self .entry) .depth + 1) (now (now (self .entry) .words))) (now (now (self .entry) .words))) × (now (self .exit) .depth ≡ cond (isOk r) (now (self .entry) .depth + 1) (now (self .entry) .depth)) ⌝ }
+        ensures memory { λ r. ⌜ (wordsOf (now (self .exit)) ≡ cond (isOk r) (copied (now (self .entry) .n) 0 (now (self .entry) .depth + 1) (wordsOf (now (self .entry)))) (wordsOf (now (self .entry)))) × (now (self .exit) .depth ≡ cond (isOk r) (now (self .entry) .depth + 1) (now (self .entry) .depth)) ⌝ }
     {
         if self.depth >= self.most {
             return Err(StoreFault::Full);
@@ -181,12 +172,12 @@ pub impl<'a> Levels for Copying<'a> as CopyingLevels {
 
     // The newest copy's words are copied over the table's, and no other word is written.
     fn restore(&mut self) -> Result<(), StoreFault>
-        ensures answer { λ r. ⌜ r ≡ answerRestore (savedIn (now (self .entry) .n) (now (self .entry) .depth) (now (now (self .entry) .words))) ⌝ }
-        ensures back { λ _. ⌜ tableIn (now (self .exit) .n) 0 (now (now (self .exit) .words)) ≡ newest (savedIn (now (self .entry) .n) (now (self .entry) .depth) (now (now (self .entry) .words))) (tableIn (now (self .entry) .n) 0 (now (now (self .entry) .words))) ⌝ }
-        ensures left { λ _. ⌜ savedIn (now (self .exit) .n) (now (self .exit) .depth) (now (now (self .exit) .words)) ≡ older (savedIn (now (self .entry) .n) (now (self .entry) .depth) (now (now (self .entry) .words))) ⌝ }
-        ensures same_frame { λ _. ⌜ frameOf (now (self .exit) .n) (now (self .exit) .most) (name (now (self .exit) .words)) (now (now (self .exit) .words)) ≡ frameOf (now (self .entry) .n) (now (self .entry) .most) (name (now (self .entry) .words)) (now (now (self .entry) .words)) ⌝ }
+        ensures answer { λ r. ⌜ r ≡ answerRestore (savedOf (now (self .entry))) ⌝ }
+        ensures back { λ _. ⌜ tableOf (now (self .exit)) ≡ newest (savedOf (now (self .entry))) (tableOf (now (self .entry))) ⌝ }
+        ensures left { λ _. ⌜ savedOf (now (self .exit)) ≡ older (savedOf (now (self .entry))) ⌝ }
+        ensures same_frame { λ _. ⌜ frameOf (now (self .exit)) ≡ frameOf (now (self .entry)) ⌝ }
         ensures refused { λ r. ⌜ Cases r (λ _. Unit {0}) (λ _. now (self .exit) ≡ now (self .entry)) ⌝ }
-        ensures memory { λ r. ⌜ (now (now (self .exit) .words) ≡ cond (isOk r) (copied (now (self .entry) .n) (now (self .entry) .depth) 0 (now (now (self .entry) .words))) (now (now (self .entry) .words))) × (now (self .exit) .depth ≡ now (self .entry) .depth - 1) ⌝ }
+        ensures memory { λ r. ⌜ (wordsOf (now (self .exit)) ≡ cond (isOk r) (copied (now (self .entry) .n) (now (self .entry) .depth) 0 (wordsOf (now (self .entry)))) (wordsOf (now (self .entry)))) × (now (self .exit) .depth ≡ now (self .entry) .depth - 1) ⌝ }
     {
         if self.depth == 0 {
             return Err(StoreFault::NoSave);

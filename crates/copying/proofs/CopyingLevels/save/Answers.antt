@@ -18,21 +18,22 @@ pub returns-then-self : needs-of.returns-then-self
 returns-then-self c =
     let s = c .args .self .now in
     let l = length-saved (s .n) (s .depth) (now (s .words)) in
-    record
-    { answer = sym (cond-false (ltb (length (savedIn (s .n) (s .depth) (now (s .words)))) (s .most)) _ _ (le-ltb _ _ (omega arith)))
-    ; noted = refl
-    ; same-table = refl
-    ; same-frame = refl
-    ; refused = refl
-    ; memory = (refl, refl) }
+    record {
+      answer = sym (cond-false (ltb (length (savedIn (s .n) (s .depth) (now (s .words)))) (s .most)) _ _ (le-ltb _ _ (omega arith)));
+      noted = refl;
+      same-table = refl;
+      same-frame = refl;
+      refused = refl;
+      memory = (refl, refl);
+    }
 
 -- the list of saved tables, once the table is copied behind them
 noted-is : (n most depth : ℕ) (ws : List ℕ) → need n most ≤ length ws → depth < most → savedIn n (depth + 1) (copied n 0 (depth + 1) ws) ≡ tableIn n 0 ws ∷ savedIn n depth ws
 noted-is n most depth ws room below =
     ap (λ i. savedIn n i (copied n 0 (depth + 1) ws)) (add-one depth)
     ∙ ap₂ (λ (t : Table) (ts : List Table). t ∷ ts)
-      (ap (λ i. tableIn n i (copied n 0 (depth + 1) ws)) (sym (add-one depth)) ∙ table-copied n most ws room 0 (depth + 1) (omega arith) (omega arith))
-      (saved-stay n most ws room 0 (depth + 1) (omega arith) (omega arith) depth (omega arith) (λ c p q e. omega arith))
+    (ap (λ i. tableIn n i (copied n 0 (depth + 1) ws)) (sym (add-one depth)) ∙ table-copied n most ws room 0 (depth + 1) (omega arith) (omega arith))
+    (saved-stay n most ws room 0 (depth + 1) (omega arith) (omega arith) depth (omega arith) (λ c p q e. omega arith))
 
 pub returns : needs-of.returns
 returns c =
@@ -43,10 +44,11 @@ returns c =
     let below : s .depth < s .most = c .if-self .left in
     let l = length-saved (s .n) (s .depth) ws in
     let mem : us ≡ copied (s .n) 0 (s .depth + 1) ws = did .words in
-    record
-    { answer = sym (cond-true (ltb (length (savedIn (s .n) (s .depth) ws)) (s .most)) _ _ (lt-ltb _ _ (omega arith)))
-    ; noted = ap₂ (λ n d. savedIn n (d + 1) us) (did .sizes .0) (did .sizes .2) ∙ ap (savedIn (s .n) (s .depth + 1)) mem ∙ noted-is (s .n) (s .most) (s .depth) ws (s .room) below
-    ; same-table = ap₂ (λ n us. tableIn n 0 us) (did .sizes .0) mem ∙ table-stays (s .n) (s .most) ws (s .room) 0 (s .depth + 1) (omega arith) (omega arith) 0 (omega arith) (λ e. omega arith)
-    ; same-frame = frame-is us ws (did .sizes .0) (did .sizes .1) (did .lent) (ap (drop (need (s .n) (s .most))) mem ∙ spare-stays (s .n) (s .most) ws (s .room) 0 (s .depth + 1) (omega arith) (omega arith))
-    ; refused = tt
-    ; memory = (mem, ap (λ d. d + 1) (did .sizes .2)) }
+    record {
+      answer = sym (cond-true (ltb (length (savedIn (s .n) (s .depth) ws)) (s .most)) _ _ (lt-ltb _ _ (omega arith)));
+      noted = ap₂ (λ n d. savedIn n (d + 1) us) (did .sizes .0) (did .sizes .2) ∙ ap (savedIn (s .n) (s .depth + 1)) mem ∙ noted-is (s .n) (s .most) (s .depth) ws (s .room) below;
+      same-table = ap₂ (λ n us. tableIn n 0 us) (did .sizes .0) mem ∙ table-stays (s .n) (s .most) ws (s .room) 0 (s .depth + 1) (omega arith) (omega arith) 0 (omega arith) (λ e. omega arith);
+      same-frame = frame-is us ws (did .sizes .0) (did .sizes .1) (did .lent) (ap (drop (need (s .n) (s .most))) mem ∙ spare-stays (s .n) (s .most) ws (s .room) 0 (s .depth + 1) (omega arith) (omega arith));
+      refused = tt;
+      memory = (mem, ap (λ d. d + 1) (did .sizes .2));
+    }

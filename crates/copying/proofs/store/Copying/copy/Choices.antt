@@ -4,7 +4,7 @@ use Prim.Native.Nat.{ℕ, _+_, _*_, _≤_}
 use denote.Ref.{now, name}
 use lib.ListN.{length}
 use Rattle.copying.proofs.Copies.{Copied}
-use Rattle.copying.proofs.Copying.copy.Given as given
+use Rattle.copying.proofs.store.Copying.copy.Given as given
 
 abbrev pub Inv-loop-k : given.InvT-loop-k
 Inv-loop-k l =
