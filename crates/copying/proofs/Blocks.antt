@@ -12,32 +12,25 @@ use lib.IntN.{ℤ}
 use lib.ListN.{length, getD, take, drop}
 use Rattle.std.proofs.shelf.Bits.{mul-le}
 use Rattle.std.proofs.shelf.Lists.{same-lists, getD-default, getD-take, getD-drop, getD-past, getD-append-left, getD-append-right, length-take, length-drop, length-append, ext-getD}
-use Rattle.std.proofs.shelf.Tests.{cases-lt, cases-eq, lt-ltb, le-ltb, ltb-true, cases-bool, eq-eqb, ne-eqb, and-parts}
+use Rattle.std.proofs.shelf.Tests.{cases-lt, lt-ltb, le-ltb, cond-true, cond-false}
 use Rattle.tables.specs.Values.{isValue, place}
 use Rattle.tables.specs.Rows.{bit, atPlace, inRow}
 use Rattle.tables.specs.Tables.{Table, Domain, kept, Shaped, AllShaped}
 use Rattle.tables.proofs.Places.{at-past, place-below}
-use Rattle.copying.specs.Memory.{need, rowIn, domainIn, tableIn, savedIn, written, meet, frameIn}
+use Rattle.copying.specs.Memory.{need, rowIn, rowAt, tableIn, savedIn, written, meet, frameIn}
 
 -- ---- reading
 
-and-false : (b : Bool) → (b && false) ≡ false
-and-false true = refl
-and-false false = refl
+-- the place of a row of the table itself
+pub first-place : (n x : ℕ) → 16 * x ≡ 16 * (n * 0 + x)
+first-place n x = omega arith
 
-none-in : (v : ℤ) → inRow [] v ≡ false
-none-in v = ap (λ (b : Bool). isValue v && b) (at-past [] (place v) (omega arith)) ∙ and-false (isValue v)
+-- a variable below n has its row
+pub row-below : (n b x : ℕ) (ws : List ℕ) → x < n → rowAt n b x ws ≡ rowIn (16 * (n * b + x)) ws
+row-below n b x ws h = cond-true (ltb x n) _ _ (lt-ltb x n h)
 
--- a variable's domain is read from its words
-pub domain-is : (n x : ℕ) (ws : List ℕ) → inRow (domainIn n x ws) ≡ tableIn n 0 ws x
-domain-is n x ws = fun-ext (λ v. by v (ltb x n))
-  where
-    at : rowIn (16 * x) ws ≡ rowIn (16 * (n * 0 + x)) ws
-    at = let e : 16 * x ≡ 16 * (n * 0 + x) = omega arith in ap (λ i. rowIn i ws) e
-
-    by : (v : ℤ) (b : Bool) → inRow (cond b (rowIn (16 * x) ws) []) v ≡ (b && inRow (rowIn (16 * (n * 0 + x)) ws) v)
-    by v true = ap (λ r. inRow r v) at
-    by v false = none-in v
+pub row-past : (n b x : ℕ) (ws : List ℕ) → n ≤ x → rowAt n b x ws ≡ []
+row-past n b x ws h = cond-false (ltb x n) _ _ (le-ltb x n h)
 
 -- ---- rows with the same words
 
@@ -51,10 +44,10 @@ row-ext us ws a b p q f =
 
 pub table-ext : (n a b : ℕ) (us ws : List ℕ) → ((x : ℕ) → x < n → rowIn (16 * (n * a + x)) us ≡ rowIn (16 * (n * b + x)) ws) → tableIn n a us ≡ tableIn n b ws
 table-ext n a b us ws f =
-    fun-ext (λ x. fun-ext (λ v.
-    ⊎-elim
-    (λ l. ap (λ r. ltb x n && inRow r v) (f x l))
-    (λ l. ap (λ (t : Bool). t && inRow (rowIn (16 * (n * a + x)) us) v) (le-ltb x n l) ∙ sym (ap (λ (t : Bool). t && inRow (rowIn (16 * (n * b + x)) ws) v) (le-ltb x n l)))
+    fun-ext (λ x. ap inRow
+    (⊎-elim
+    (λ l. row-below n a x us l ∙ f x l ∙ sym (row-below n b x ws l))
+    (λ l. row-past n a x us l ∙ sym (row-past n b x ws l))
     (cases-lt x n)))
 
 pub saved-ext : (n d : ℕ) (us ws : List ℕ) → ((b x : ℕ) → 1 ≤ b → b ≤ d → x < n → rowIn (16 * (n * b + x)) us ≡ rowIn (16 * (n * b + x)) ws) → savedIn n d us ≡ savedIn n d ws

@@ -15,8 +15,8 @@ use Rattle.std.proofs.shelf.Ways.{tells}
 use Rattle.tables.specs.Rows.{inRow}
 use Rattle.tables.specs.Tables.{Table, Domain, sizeOf, kept}
 use Rattle.tables.proofs.Keeps.{kept-here, kept-beside}
-use Rattle.copying.specs.Memory.{need, rowIn, domainIn, tableIn, savedIn, written, meet}
-use Rattle.copying.proofs.Blocks.{domain-is, row-ext, table-ext, saved-ext, is-written, row-beside, row-inside, drop-written, row-room, row-apart}
+use Rattle.copying.specs.Memory.{need, rowIn, tableIn, savedIn, written, meet}
+use Rattle.copying.proofs.Blocks.{first-place, row-below, row-past, row-ext, table-ext, saved-ext, is-written, row-beside, row-inside, drop-written, row-room, row-apart}
 use Rattle.copying.proofs.Meets.{getD-meet, length-meet, in-meet, lost, gone, lost-size, gone-size}
 
 -- the words vs are ws with the first m words of a row met in at place p
@@ -94,10 +94,10 @@ module _ (n most x : ℕ) (ws row : List ℕ) (below : x < n) (room : need n mos
   row-there p h side = let b = block in row-beside (16 * x) (meet (rowIn (16 * x) ws) row) ws p over h (⊎-elim (λ l. inl l) (λ g. inr (omega arith)) side)
 
   domain-here : tableIn n 0 (met-words x row ws) x ≡ inRow (meet (rowIn (16 * x) ws) row)
-  domain-here = sym (ap inRow (sym (cond-true (ltb x n) _ _ (lt-ltb x n below) ∙ row-here)) ∙ domain-is n x (met-words x row ws))
+  domain-here = ap inRow (row-below n 0 x (met-words x row ws) below ∙ ap (λ p. rowIn p (met-words x row ws)) (sym (first-place n x)) ∙ row-here)
 
   domain-was : tableIn n 0 ws x ≡ inRow (rowIn (16 * x) ws)
-  domain-was = sym (ap inRow (sym (cond-true (ltb x n) _ _ (lt-ltb x n below))) ∙ domain-is n x ws)
+  domain-was = ap inRow (row-below n 0 x ws below ∙ ap (λ p. rowIn p ws) (sym (first-place n x)))
 
   pub keeps-table : tableIn n 0 (met-words x row ws) ≡ kept x row (tableIn n 0 ws)
   keeps-table =
@@ -114,9 +114,11 @@ module _ (n most x : ℕ) (ws row : List ℕ) (below : x < n) (room : need n mos
     where
       other : (y : ℕ) (v : ℤ) → (y ≡ x → ⊥) → (y < n) ⊎ (n ≤ y) → tableIn n 0 (met-words x row ws) y v ≡ tableIn n 0 ws y v
       other y v ne (inl l) =
-          ap (λ r. ltb y n && inRow r v)
-          (row-there (16 * (n * 0 + y)) (omega (arith, row-room n 0 most y (omega arith) l)) (⊎-elim (λ u. inl (omega arith)) (λ u. inr (omega (arith, ne))) (cases-lt y x)))
-      other y v ne (inr l) = ap (λ (t : Bool). t && inRow (rowIn (16 * (n * 0 + y)) (met-words x row ws)) v) (le-ltb y n l) ∙ sym (ap (λ (t : Bool). t && inRow (rowIn (16 * (n * 0 + y)) ws) v) (le-ltb y n l))
+          ap (λ r. inRow r v)
+          (row-below n 0 y (met-words x row ws) l
+          ∙ row-there (16 * (n * 0 + y)) (omega (arith, row-room n 0 most y (omega arith) l)) (⊎-elim (λ u. inl (omega arith)) (λ u. inr (omega (arith, ne))) (cases-lt y x))
+          ∙ sym (row-below n 0 y ws l))
+      other y v ne (inr l) = ap (λ r. inRow r v) (row-past n 0 y (met-words x row ws) l ∙ sym (row-past n 0 y ws l))
 
   pub keeps-saved : (depth : ℕ) → depth ≤ most → savedIn n depth (met-words x row ws) ≡ savedIn n depth ws
   keeps-saved depth h =

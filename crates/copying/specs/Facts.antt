@@ -1,22 +1,28 @@
 -- Facts that hold of the tables in any words.
 use mathlib.Core.Path.{_≡_, refl, sym, ap, subst}
-use mathlib.Core.Bool.{true, _&&_}
-use mathlib.Core.List.{List}
-use Prim.Native.Nat.{ℕ, zero, suc, _+_, _*_, _≤_}
+use mathlib.Core.Bool.{Bool, true, false, cond}
+use mathlib.Core.List.{List, []}
+use Prim.Native.Nat.{ℕ, zero, suc, _+_, _*_, _≤_, _<_, zero-le}
 use lib.Dec.{ltb}
 use lib.IntN.{ℤ}
 use lib.ListN.{length}
-use Rattle.std.proofs.shelf.Tests.{ltb-true, and-parts}
+use Rattle.std.proofs.shelf.Tests.{ltb-true, and-parts, and-right, both-ways}
 use Rattle.tables.specs.Values.{isValue, place}
 use Rattle.tables.specs.Rows.{atPlace, inRow}
 use Rattle.tables.specs.Tables.{Shaped, AllShaped}
+use Rattle.tables.proofs.Places.{at-past}
 use Rattle.copying.specs.Memory.{rowIn, tableIn, savedIn}
 
+-- no word, no value
+pub none-in : (v : ℤ) → inRow [] v ≡ false
+none-in v = and-right (isValue v) (atPlace [] (place v)) (at-past [] (place v) (zero-le))
+
 pub table-shaped : (n b : ℕ) (ws : List ℕ) → Shaped n (tableIn n b ws)
-table-shaped n b ws x v h =
-    let p = and-parts (ltb x n) (inRow (rowIn (16 * (n * b + x)) ws) v) h in
-    let q = and-parts (isValue v) (atPlace (rowIn (16 * (n * b + x)) ws) (place v)) (p .1) in
-    (ltb-true x n (p .0), q .0)
+table-shaped n b ws x v h = by (ltb x n) refl h
+  where
+    by : (t : Bool) → ltb x n ≡ t → inRow (cond t (rowIn (16 * (n * b + x)) ws) []) v ≡ true → (x < n) × (isValue v ≡ true)
+    by true below h = (ltb-true x n below, and-parts (isValue v) (atPlace (rowIn (16 * (n * b + x)) ws) (place v)) h .0)
+    by false past h = absurd (both-ways (inRow [] v) (none-in v) h)
 
 pub saved-shaped : (n d : ℕ) (ws : List ℕ) → AllShaped n (savedIn n d ws)
 saved-shaped n zero ws = tt

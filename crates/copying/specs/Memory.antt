@@ -29,13 +29,13 @@ answerCheck n most len = cond (fits n most len) (Ok tt) (Err Limits)
 abbrev pub rowIn : ℕ → List ℕ → List ℕ
 rowIn at words = take 16 (drop at words)
 
--- the words of variable x of the table, none where x is not below n
-abbrev pub domainIn : ℕ → ℕ → List ℕ → List ℕ
-domainIn n x words = cond (ltb x n) (rowIn (16 * x) words) []
+-- the row of variable x in table number b, none where x is not below n
+abbrev pub rowAt : ℕ → ℕ → ℕ → List ℕ → List ℕ
+rowAt n b x words = cond (ltb x n) (rowIn (16 * (n * b + x)) words) []
 
 -- table number b
 abbrev pub tableIn : ℕ → ℕ → List ℕ → Table
-tableIn n b words x v = ltb x n && inRow (rowIn (16 * (n * b + x)) words) v
+tableIn n b words x = inRow (rowAt n b x words)
 
 -- the saved tables where `depth` are saved, the newest first
 abbrev pub savedIn : ℕ → ℕ → List ℕ → List Table

@@ -1,15 +1,16 @@
 // A store of tables that saves by copying, in words that the caller lends.
 ghost use mathlib.Core.Path.{_≡_};
-ghost use mathlib.Core.Bool.{cond};
+ghost use mathlib.Core.Bool.{false, cond, not};
 ghost use mathlib.Core.List.{_∷_};
-ghost use Prim.Native.Nat.{_+_, _-_, _≤_};
+ghost use Prim.Native.Nat.{_+_, _-_, _≤_, _<_};
+ghost use lib.Dec.{ltb};
 ghost use lib.ListN.{length};
 ghost use denote.Ref.{name};
 ghost use Rattle.std.specs.Results.{Cases, isOk};
 ghost use Rattle.tables.specs.Stores.{answerKeep, answerSave, answerRestore, newest, older};
 ghost use Rattle.tables.specs.Tables.{kept};
 ghost use Rattle.copying.specs.Meaning.{wordsOf, tableOf, savedOf, frameOf};
-ghost use Rattle.copying.specs.Memory.{fits, answerCheck, domainIn, narrowed, copied};
+ghost use Rattle.copying.specs.Memory.{fits, answerCheck, rowAt, narrowed, copied};
 ghost use Rattle.copying.specs.Facts.{table-shaped, saved-shaped, saved-within};
 
 pub mod store;
@@ -59,7 +60,7 @@ impl<'a> Copying<'a> {
 
     // The words of variable x, none where x is not below n.
     fn row(&self, x: usize) -> &[u64]
-        ensures { λ r. ⌜ now r ≡ domainIn (now (self .entry) .n) x (wordsOf (now (self .entry))) ⌝ }
+        ensures { λ r. ⌜ now r ≡ rowAt (now (self .entry) .n) 0 x (wordsOf (now (self .entry))) ⌝ }
     {
         if x >= self.n {
             return &self.words[0..0];
@@ -83,6 +84,59 @@ impl<'a> Copying<'a> {
         for k in 0..len {
             self.words[target + k] = self.words[source + k];
         }
+    }
+
+    // Meets the words of variable x with the row's, and writes no other word.
+    fn meet(&mut self, x: usize, row: Row) -> Kept
+        requires { ⌜ x < now self .n ⌝ }
+        ensures after { λ _. ⌜ tableOf (now (self .exit)) ≡ kept x row (tableOf (now (self .entry))) ⌝ }
+        ensures answer { λ r. ⌜ r ≡ answerKeep (tableOf (now (self .entry)) x) (tableOf (now (self .exit)) x) ⌝ }
+        ensures same_saved { λ _. ⌜ savedOf (now (self .exit)) ≡ savedOf (now (self .entry)) ⌝ }
+        ensures same_frame { λ _. ⌜ frameOf (now (self .exit)) ≡ frameOf (now (self .entry)) ⌝ }
+        ensures memory { λ _. ⌜ (wordsOf (now (self .exit)) ≡ narrowed (now (self .entry) .n) x row (wordsOf (now (self .entry)))) × (now (self .exit) .depth ≡ now (self .entry) .depth) ⌝ }
+    {
+        let at = 16 * x;
+        let mut smaller = false;
+        let mut empty = true;
+        for k in 0..16usize {
+            let before = self.words[at + k];
+            let after = before & row[k];
+            self.words[at + k] = after;
+            smaller |= after != before;
+            empty &= after == 0;
+        }
+        Kept { smaller, empty }
+    }
+
+    // Whether as many tables are saved as can be.
+    fn is_full(&self) -> bool
+        ensures value { λ r. ⌜ r ≡ not (ltb (length (savedOf (now (self .entry)))) (now (self .entry) .most)) ⌝ }
+        ensures depth { λ r. ⌜ (r ≡ false → now (self .entry) .depth < now (self .entry) .most) ⌝ }
+    {
+        self.depth >= self.most
+    }
+
+    // Copies the table behind the saved ones, where there is room.
+    fn push(&mut self)
+        requires { ⌜ now self .depth < now self .most ⌝ }
+        ensures noted { λ _. ⌜ savedOf (now (self .exit)) ≡ tableOf (now (self .entry)) ∷ savedOf (now (self .entry)) ⌝ }
+        ensures same_table { λ _. ⌜ tableOf (now (self .exit)) ≡ tableOf (now (self .entry)) ⌝ }
+        ensures same_frame { λ _. ⌜ frameOf (now (self .exit)) ≡ frameOf (now (self .entry)) ⌝ }
+        ensures memory { λ _. ⌜ (wordsOf (now (self .exit)) ≡ copied (now (self .entry) .n) 0 (now (self .entry) .depth + 1) (wordsOf (now (self .entry)))) × (now (self .exit) .depth ≡ now (self .entry) .depth + 1) ⌝ }
+    {
+        self.copy(0, self.depth + 1);
+        self.depth += 1;
+    }
+
+    // Copies the newest saved table over the table, where there is one.
+    fn pop(&mut self)
+        requires { ⌜ 0 < now self .depth ⌝ }
+        ensures back { λ _. ⌜ savedOf (now (self .entry)) ≡ tableOf (now (self .exit)) ∷ savedOf (now (self .exit)) ⌝ }
+        ensures same_frame { λ _. ⌜ frameOf (now (self .exit)) ≡ frameOf (now (self .entry)) ⌝ }
+        ensures memory { λ _. ⌜ (wordsOf (now (self .exit)) ≡ copied (now (self .entry) .n) (now (self .entry) .depth) 0 (wordsOf (now (self .entry)))) × (now (self .exit) .depth ≡ now (self .entry) .depth - 1) ⌝ }
+    {
+        self.copy(self.depth, 0);
+        self.depth -= 1;
     }
 }
 
@@ -138,17 +192,7 @@ pub impl<'a> Domains for Copying<'a> as CopyingDomains {
                 empty: true,
             };
         }
-        let at = 16 * x;
-        let mut smaller = false;
-        let mut empty = true;
-        for k in 0..16usize {
-            let before = self.words[at + k];
-            let after = before & row[k];
-            self.words[at + k] = after;
-            smaller |= after != before;
-            empty &= after == 0;
-        }
-        Kept { smaller, empty }
+        self.meet(x, row)
     }
 }
 
@@ -162,11 +206,10 @@ pub impl<'a> Levels for Copying<'a> as CopyingLevels {
         ensures refused { λ r. ⌜ Cases r (λ _. Unit {0}) (λ _. now (self .exit) ≡ now (self .entry)) ⌝ }
         ensures memory { λ r. ⌜ (wordsOf (now (self .exit)) ≡ cond (isOk r) (copied (now (self .entry) .n) 0 (now (self .entry) .depth + 1) (wordsOf (now (self .entry)))) (wordsOf (now (self .entry)))) × (now (self .exit) .depth ≡ cond (isOk r) (now (self .entry) .depth + 1) (now (self .entry) .depth)) ⌝ }
     {
-        if self.depth >= self.most {
+        if self.is_full() {
             return Err(StoreFault::Full);
         }
-        self.copy(0, self.depth + 1);
-        self.depth += 1;
+        self.push();
         Ok(())
     }
 
@@ -182,8 +225,7 @@ pub impl<'a> Levels for Copying<'a> as CopyingLevels {
         if self.depth == 0 {
             return Err(StoreFault::NoSave);
         }
-        self.copy(self.depth, 0);
-        self.depth -= 1;
+        self.pop();
         Ok(())
     }
 }

@@ -10,8 +10,6 @@ use lib.Dec.{eqb, leb, ltb}
 use lib.IntN.{ℤ, pos, negsuc, _+ℤ_, _-ℤ_}
 use lib.Signed.{leZ, ltZ, _≤ℤ_, _<ℤ_}
 use lib.ListN.{length, getD, set}
-use Rattle.std.specs.declared.option.Option.{Option}
-use Rattle.std.specs.declared.option.Option.the-variants.{Some, None}
 use Rattle.std.proofs.shelf.Lists.{getD-past, getD-set-same, getD-set-other}
 use Rattle.std.proofs.shelf.Bits.{pow-below}
 use Rattle.std.proofs.shelf.Ways.{same-from-decides, decides-eqb}
@@ -74,21 +72,6 @@ row-by-words row f e v = elim-value (isValue v) refl
         let l = place-below v h in
         let s : 64 * (place v / 64) + place v % 64 ≡ place v = omega arith in
         e (place v / 64) (place v % 64) (omega arith) (omega arith) ∙ ap f s
-
--- the answer of `place_of`
-pub placed : (v : ℤ) (p : ℕ) → Some p ≡ cond (isValue v) (Some (place v)) None → (isValue v ≡ true) × (p ≡ place v)
-placed v p h = by (isValue v) h
-  where
-    by : (b : Bool) → Some p ≡ cond b (Some (place v)) None → (b ≡ true) × (p ≡ place v)
-    by true h = (refl, cc)
-    by false h = let z : _≡_ {A = ℕ} 0 1 = cc in absurd (omega arith)
-
-pub not-placed : (v : ℤ) → _≡_ {A = Option ℕ} None (cond (isValue v) (Some (place v)) None) → isValue v ≡ false
-not-placed v h = by (isValue v) h
-  where
-    by : (b : Bool) → _≡_ {A = Option ℕ} None (cond b (Some (place v)) None) → b ≡ false
-    by false h = refl
-    by true h = let z : _≡_ {A = ℕ} 0 1 = cc in absurd (omega arith)
 
 -- ---- one bit of a row changed
 
@@ -169,11 +152,11 @@ split-and : (a b c : Bool) → (a && (b && not c)) ≡ ((a && b) && not (a && c)
 split-and true b c = refl
 split-and false b c = refl
 
-pub put-in : (row new : List ℕ) (v : ℤ) → isValue v ≡ true → ((q : ℕ) → atPlace new q ≡ (atPlace row q || eqb q (place v))) → (u : ℤ) → inRow new u ≡ (inRow row u || (isValue v && equalZ u v))
+pub put-in : (row new : List ℕ) (v : ℤ) → isValue v ≡ true → ((q : ℕ) → atPlace new q ≡ (atPlace row q || eqb q (place v))) → (u : ℤ) → inRow new u ≡ (inRow row u || equalZ u v)
 put-in row new v h e u =
     ap (λ (b : Bool). isValue u && b) (e (place u))
     ∙ split-or (isValue u) (atPlace row (place u)) (eqb (place u) (place v))
-    ∙ ap₂ (λ (a b : Bool). inRow row u || (a && b)) (sym h) (same-place u v h)
+    ∙ ap (λ (b : Bool). inRow row u || b) (same-place u v h)
 
 pub take-out : (row new : List ℕ) (v : ℤ) → isValue v ≡ true → ((q : ℕ) → atPlace new q ≡ (atPlace row q && not (eqb q (place v)))) → (u : ℤ) → inRow new u ≡ (inRow row u && not (equalZ u v))
 take-out row new v h e u =

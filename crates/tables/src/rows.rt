@@ -4,9 +4,9 @@ ghost use mathlib.Core.Bool.{Bool, true, false, cond, not, _&&_, _||_};
 ghost use Prim.Native.Nat.{ℕ, _+_, _-_, _*_, _/_, _%_, _^_, _<_, _≤_};
 ghost use lib.Dec.{eqb, leb, ltb};
 ghost use lib.IntN.{ℤ, pos, negsuc};
-ghost use lib.Signed.{leZ, ltZ};
+ghost use lib.Signed.{leZ, ltZ, _≤ℤ_};
 ghost use lib.ListN.{length, getD};
-ghost use Rattle.std.specs.declared.option.Option.the-variants.{Some, None};
+ghost use Rattle.std.specs.Options.{Cases};
 ghost use Rattle.tables.specs.Values.{isValue, place, equalZ};
 ghost use Rattle.tables.specs.Rows.{bit, atPlace, inRow, First, Final};
 ghost use Rattle.tables.specs.Tables.{sizeOf, Next, Last};
@@ -16,7 +16,7 @@ pub type Row = [u64; 16];
 
 // The place of a value, or nothing for a number that is none.
 fn place_of(v: i32) -> Option<usize>
-    ensures { λ r. ⌜ r ≡ cond (isValue v) (Some (place v)) None ⌝ }
+    ensures { λ r. ⌜ Cases r (isValue v ≡ false) (λ p. (isValue v ≡ true) × (p ≡ place v)) ⌝ }
 {
     if v >= -512 && v <= 511 {
         Some((v + 512) as usize)
@@ -25,12 +25,19 @@ fn place_of(v: i32) -> Option<usize>
     }
 }
 
-// Whether the words have the bit of a value.
+// Whether the bit of a place is set.
+fn at_place(row: &[u64], p: usize) -> bool
+    ensures { λ r. ⌜ r ≡ atPlace (now (row .entry)) p ⌝ }
+{
+    p / 64 < row.len() && (row[p / 64] >> (p % 64)) & 1 == 1
+}
+
+// Whether the words have a value.
 pub fn has(row: &[u64], v: i32) -> bool
     ensures { λ r. ⌜ r ≡ inRow (now (row .entry)) v ⌝ }
 {
     match place_of(v) {
-        Some(p) => p / 64 < row.len() && (row[p / 64] >> (p % 64)) & 1 == 1,
+        Some(p) => at_place(row, p),
         None => false,
     }
 }
@@ -44,29 +51,49 @@ pub fn none() -> Row
 pub fn all() -> Row
     ensures { λ r. ⌜ ((v : ℤ) → inRow r v ≡ isValue v) ⌝ }
 {
-    [u64::MAX; 16]
+    interval(-512, 511)
+}
+
+// The row with the bit of a value's place set.
+fn put(row: Row, v: i32, p: usize) -> Row
+    requires value { ⌜ isValue v ≡ true ⌝ }
+    requires at { ⌜ p ≡ place v ⌝ }
+    ensures { λ r. ⌜ ((u : ℤ) → inRow r u ≡ (inRow row u || equalZ u v)) ⌝ }
+{
+    let mut wider = row;
+    wider[p / 64] |= 1 << (p % 64);
+    wider
+}
+
+// The row with the bit of a value's place cleared.
+fn clear(row: Row, v: i32, p: usize) -> Row
+    requires value { ⌜ isValue v ≡ true ⌝ }
+    requires at { ⌜ p ≡ place v ⌝ }
+    ensures { λ r. ⌜ ((u : ℤ) → inRow r u ≡ (inRow row u && not (equalZ u v))) ⌝ }
+{
+    let mut narrower = row;
+    narrower[p / 64] &= !(1 << (p % 64));
+    narrower
 }
 
 // The row with a value put in; a number that is no value changes nothing.
 pub fn with(row: Row, v: i32) -> Row
     ensures { λ r. ⌜ ((u : ℤ) → inRow r u ≡ (inRow row u || (isValue v && equalZ u v))) ⌝ }
 {
-    let mut wider = row;
-    if let Some(p) = place_of(v) {
-        wider[p / 64] |= 1 << (p % 64);
+    match place_of(v) {
+        Some(p) => put(row, v, p),
+        None => row,
     }
-    wider
 }
 
 // The row with a value taken out.
 pub fn without(row: Row, v: i32) -> Row
     ensures { λ r. ⌜ ((u : ℤ) → inRow r u ≡ (inRow row u && not (equalZ u v))) ⌝ }
 {
-    let mut narrower = row;
-    if let Some(p) = place_of(v) {
-        narrower[p / 64] &= !(1 << (p % 64));
+    match place_of(v) {
+        Some(p) => clear(row, v, p),
+        None => row,
     }
-    narrower
 }
 
 // The word of its `n` lowest bits, of which there are 64 at the most.
@@ -106,15 +133,27 @@ pub fn interval(lo: i32, hi: i32) -> Row
     row
 }
 
-// How many values the words have.
-pub fn size(row: &[u64]) -> usize
-    ensures { λ r. ⌜ r ≡ sizeOf (inRow (now (row .entry))) ⌝ }
+// How many bits are set in the first `m` words, which are all there are or sixteen.
+fn count_words(row: &[u64], m: usize) -> usize
+    requires within { ⌜ m ≤ length (now row) ⌝ }
+    requires most { ⌜ m ≤ 16 ⌝ }
+    requires least { ⌜ (m < length (now row) → 16 ≤ m) ⌝ }
+    ensures value { λ r. ⌜ r ≡ sizeOf (inRow (now (row .entry))) ⌝ }
+    ensures bound { λ r. ⌜ r ≤ 1024 ⌝ }
 {
     let mut total = 0;
-    for j in 0..row.len().min(16) {
+    for j in 0..m {
         total += row[j].count_ones() as usize;
     }
     total
+}
+
+// How many values the words have.
+pub fn size(row: &[u64]) -> usize
+    ensures value { λ r. ⌜ r ≡ sizeOf (inRow (now (row .entry))) ⌝ }
+    ensures bound { λ r. ⌜ r ≤ 1024 ⌝ }
+{
+    count_words(row, row.len().min(16))
 }
 
 // The lowest set bit of a word at or above `from`.
@@ -143,7 +182,8 @@ fn next_place(row: &[u64], from: usize) -> Option<usize>
 
 // The next value of the words at or above a number.
 pub fn next(row: &[u64], from: i32) -> Option<i32>
-    ensures { λ r. ⌜ Next (inRow (now (row .entry))) from r ⌝ }
+    ensures value { λ r. ⌜ Next (inRow (now (row .entry))) from r ⌝ }
+    ensures bounds { λ r. ⌜ Cases r (Unit {0}) (λ v. (negsuc 511 ≤ℤ v) × (v ≤ℤ pos 511)) ⌝ }
 {
     match next_place(row, places_below(from)) {
         Some(p) => Some(p as i32 - 512),
@@ -179,7 +219,8 @@ fn last_place(row: &[u64], end: usize) -> Option<usize>
 
 // The last value of the words at or below a number.
 pub fn last(row: &[u64], upto: i32) -> Option<i32>
-    ensures { λ r. ⌜ Last (inRow (now (row .entry))) upto r ⌝ }
+    ensures value { λ r. ⌜ Last (inRow (now (row .entry))) upto r ⌝ }
+    ensures bounds { λ r. ⌜ Cases r (Unit {0}) (λ v. (negsuc 511 ≤ℤ v) × (v ≤ℤ pos 511)) ⌝ }
 {
     match last_place(row, places_upto(upto)) {
         Some(p) => Some(p as i32 - 512),

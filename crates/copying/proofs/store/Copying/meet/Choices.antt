@@ -7,7 +7,7 @@ use lib.Dec.{leb, ltb}
 use lib.ListN.{length, getD}
 use Rattle.copying.specs.Memory.{rowIn}
 use Rattle.copying.proofs.Meets.{lost, gone}
-use Rattle.copying.proofs.CopyingDomains.keep.Given as given
+use Rattle.copying.proofs.store.Copying.meet.Given as given
 
 abbrev pub Inv-loop-k : given.InvT-loop-k
 Inv-loop-k l =

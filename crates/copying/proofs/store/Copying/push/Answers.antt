@@ -4,28 +4,12 @@ use Prim.Native.Nat.{ℕ, suc, _+_, _<_, _≤_}
 use native.Mathlib.Numerals.{add-one}
 use native.Mathlib.Omega.{arith}
 use denote.Ref.{now}
-use lib.Dec.{ltb}
 use lib.ListN.{length, drop}
-use Rattle.std.proofs.shelf.Tests.{le-ltb, lt-ltb, cond-true, cond-false}
 use Rattle.tables.specs.Tables.{Table}
 use Rattle.copying.specs.Memory.{need, tableIn, savedIn, copied}
-use Rattle.copying.specs.Facts.{length-saved}
 use Rattle.copying.proofs.Blocks.{frame-is}
 use Rattle.copying.proofs.Copies.{table-copied, table-stays, saved-stay, spare-stays}
-use Rattle.copying.proofs.CopyingLevels.save.Needs as needs-of
-
-pub returns-then-self : needs-of.returns-then-self
-returns-then-self c =
-    let s = c .args .self .now in
-    let l = length-saved (s .n) (s .depth) (now (s .words)) in
-    record {
-      answer = sym (cond-false (ltb (length (savedIn (s .n) (s .depth) (now (s .words)))) (s .most)) _ _ (le-ltb _ _ (omega arith)));
-      noted = refl;
-      same-table = refl;
-      same-frame = refl;
-      refused = refl;
-      memory = (refl, refl);
-    }
+use Rattle.copying.proofs.store.Copying.push.Needs as needs-of
 
 -- the list of saved tables, once the table is copied behind them
 noted-is : (n most depth : ℕ) (ws : List ℕ) → need n most ≤ length ws → depth < most → savedIn n (depth + 1) (copied n 0 (depth + 1) ws) ≡ tableIn n 0 ws ∷ savedIn n depth ws
@@ -41,14 +25,11 @@ returns c =
     let ws = now (s .words) in
     let us = now (c .copy .last .self .words) in
     let did = c .copy .ensures in
-    let below : s .depth < s .most = c .if-self .left in
-    let l = length-saved (s .n) (s .depth) ws in
+    let below : s .depth < s .most = c .pre in
     let mem : us ≡ copied (s .n) 0 (s .depth + 1) ws = did .words in
     record {
-      answer = sym (cond-true (ltb (length (savedIn (s .n) (s .depth) ws)) (s .most)) _ _ (lt-ltb _ _ (omega arith)));
       noted = ap₂ (λ n d. savedIn n (d + 1) us) (did .sizes .0) (did .sizes .2) ∙ ap (savedIn (s .n) (s .depth + 1)) mem ∙ noted-is (s .n) (s .most) (s .depth) ws (s .room) below;
       same-table = ap₂ (λ n us. tableIn n 0 us) (did .sizes .0) mem ∙ table-stays (s .n) (s .most) ws (s .room) 0 (s .depth + 1) (omega arith) (omega arith) 0 (omega arith) (λ e. omega arith);
       same-frame = frame-is us ws (did .sizes .0) (did .sizes .1) (did .lent) (ap (drop (need (s .n) (s .most))) mem ∙ spare-stays (s .n) (s .most) ws (s .room) 0 (s .depth + 1) (omega arith) (omega arith));
-      refused = tt;
       memory = (mem, ap (λ d. d + 1) (did .sizes .2));
     }
