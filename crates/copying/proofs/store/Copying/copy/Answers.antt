@@ -1,5 +1,5 @@
 use mathlib.Core.Path.{_≡_, refl, subst, _∙_}
-use mathlib.Core.Logic.{⊎-elim}
+use mathlib.Core.Logic.{inl, inr, ⊎-elim}
 use Prim.Native.Nat.{ℕ, _+_, _*_, _≤_}
 use native.Mathlib.Omega.{arith}
 use denote.Ref.{now}
@@ -14,7 +14,7 @@ loop-k-holds c =
     let p = block-room (s .n) (c .args .from) (s .most) (c .pre .from-within) in
     let q = block-room (s .n) (c .args .to) (s .most) (c .pre .to-within) in
     let room = s .room in
-    (refl, refl, refl, refl, refl, omega arith, omega arith, blocks-apart (s .n) (c .args .from) (c .args .to) (c .pre .apart), copied-none _ _ (now (s .words)))
+    (refl, refl, refl, refl, refl, omega arith, omega arith, ⊎-elim (λ u. inl (omega arith)) (λ u. inr (omega arith)) (blocks-apart (s .n) (c .args .from) (c .args .to) (c .pre .apart)), copied-none _ _ (now (s .words)))
 
 pub loop-k-again : needs-of.loop-k-again
 loop-k-again c =
