@@ -8,6 +8,7 @@ ghost use Rattle.tables.specs.declared.fault.StoreFault.the-variants.{Full};
 ghost use lib.ListN.{length, drop};
 ghost use Rattle.copying.specs.Memory.{need, tableIn, narrowed};
 ghost use Rattle.tables.specs.Tables.{kept, sizeOf};
+ghost use Rattle.trials.specs.Examples.{Computes};
 use copying::Copying;
 use copying::CopyingDomains;
 use copying::CopyingLevels;
@@ -15,6 +16,7 @@ use tables::Domains;
 use tables::Levels;
 use tables::Row;
 use tables::StoreFault;
+use tables::rows;
 
 // Whether variable x would have a value left of a row: it is tried behind a save, and taken back. Where no save is granted nothing is tried.
 pub fn try_out<S: Levels>(store: &mut S, x: usize, row: Row) -> Result<bool, StoreFault>
@@ -44,6 +46,15 @@ pub fn lend(words: &mut [u64], x: usize, row: Row) -> bool
 {
     let mut store = Copying::new(words, 3, 2);
     keep_at(&mut store, x, row)
+}
+
+// The definitions compute: on a small table they give the sizes that one counts by hand, and so does the code on the row that it keeps.
+pub fn small_table_counts() -> usize
+    ensures defined { λ _. ⌜ Computes ⌝ }
+    ensures counted { λ r. ⌜ r ≡ 3 ⌝ }
+{
+    let row = [0, 0, 0, 0, 0, 0, 0, 1 << 63, 1, 0, 0, 0, 0, 0, 0, 1 << 63];
+    rows::size(&row)
 }
 
 #[cfg(test)]
