@@ -1,23 +1,19 @@
 -- Rows and tables in a list of words, and what a block that is written changes of them.
-use mathlib.Core.Path.{_≡_, refl, sym, ap, ap₂, subst, fun-ext, _∙_}
-use mathlib.Core.Bool.{Bool, true, false, cond, not, _&&_, _||_}
+use mathlib.Core.Path.{_≡_, refl, sym, ap, ap₂, fun-ext, _∙_}
 use mathlib.Core.List.{List, [], _∷_, _++_}
-use mathlib.Core.Logic.{_≢_, _⊎_, inl, inr, ⊎-elim}
-use Prim.Native.Nat.{ℕ, zero, suc, _+_, _-_, _*_, _^_, _≤_, _<_, min}
-use native.Mathlib.Nat.{mul-le-mul-left, mul-add, mul-one}
+use mathlib.Core.Logic.{_⊎_, ⊎-elim}
+use Prim.Native.Nat.{ℕ, zero, suc, _+_, _-_, _*_, _≤_, _<_}
+use native.Mathlib.Nat.{mul-add}
 use native.Mathlib.Omega.{arith}
-use lib.Bits.{bitAnd, and-zero-l, and-zero-r}
-use lib.Dec.{eqb, leb, ltb}
-use lib.IntN.{ℤ}
+use lib.Dec.{ltb}
 use lib.ListN.{length, getD, take, drop}
 use Rattle.std.proofs.shelf.Bits.{mul-le}
-use Rattle.std.proofs.shelf.Lists.{same-lists, getD-default, getD-take, getD-drop, getD-past, getD-append-left, getD-append-right, length-take, length-drop, length-append, ext-getD}
+use Rattle.std.proofs.shelf.Lists.{getD-take, getD-drop, getD-append-left, getD-append-right, length-take, length-drop, length-append, ext-getD}
 use Rattle.std.proofs.shelf.Tests.{cases-lt, lt-ltb, le-ltb, cond-true, cond-false}
-use Rattle.tables.specs.Values.{isValue, place}
-use Rattle.tables.specs.Rows.{bit, atPlace, inRow}
-use Rattle.tables.specs.Tables.{Table, Domain, kept, Shaped, AllShaped}
-use Rattle.tables.proofs.Places.{at-past, place-below}
-use Rattle.copying.specs.Memory.{need, rowIn, rowAt, tableIn, savedIn, written, meet, frameIn}
+use Rattle.tables.specs.Values.{place}
+use Rattle.tables.specs.Rows.{inRow}
+use Rattle.tables.specs.Tables.{Table}
+use Rattle.copying.specs.Memory.{need, rowIn, rowAt, tableIn, savedIn, written, frameIn}
 
 -- ---- reading
 

@@ -1,19 +1,19 @@
 -- A row that is met with another: which values it then has, and whether it lost one.
-use mathlib.Core.Path.{_≡_, refl, sym, ap, ap₂, subst, fun-ext, _∙_}
-use mathlib.Core.Bool.{Bool, true, false, cond, not, _&&_, _||_}
-use mathlib.Core.List.{List, [], _∷_, _++_}
-use mathlib.Core.Logic.{_≢_, _⊎_, inl, inr, ⊎-elim}
+use mathlib.Core.Path.{_≡_, refl, sym, ap, subst, _∙_}
+use mathlib.Core.Bool.{Bool, true, false, not, _&&_, _||_}
+use mathlib.Core.List.{List, [], _∷_}
+use mathlib.Core.Logic.{_⊎_, inl, inr, ⊎-elim}
 use Prim.Native.Nat.{ℕ, zero, suc, _+_, _-_, _*_, _/_, _%_, _^_, _≤_, _<_}
 use native.Mathlib.Numerals.{add-one}
 use native.Mathlib.Omega.{arith}
 use lib.Bits.{bitAnd, and-zero-l, and-zero-r, and-lt}
-use lib.Dec.{eqb, leb, ltb}
+use lib.Dec.{eqb, ltb}
 use lib.IntN.{ℤ}
-use lib.ListN.{length, getD, take, drop}
-use Rattle.std.proofs.shelf.Tests.{cases-lt, cases-eq, lt-ltb, le-ltb, cases-bool, eq-eqb, ne-eqb, eqb-true, eqb-false, and-parts, both-ways, or-parts, or-cases, and-cases, not-true}
+use lib.ListN.{length, getD}
+use Rattle.std.proofs.shelf.Tests.{cases-lt, lt-ltb, le-ltb, cases-bool, eq-eqb, ne-eqb, eqb-true, eqb-false, and-parts, both-ways, or-parts, or-cases, and-cases, not-true}
 use Rattle.tables.specs.Values.{isValue, place, valueAt}
 use Rattle.tables.specs.Rows.{bit, atPlace, inRow}
-use Rattle.tables.specs.Tables.{Domain, sizeOf}
+use Rattle.tables.specs.Tables.{sizeOf}
 use Rattle.tables.proofs.Words.{bit-and, bit-zero, bits-same}
 use Rattle.tables.proofs.Places.{at-word, in-row-at, value-at, place-below}
 use Rattle.tables.proofs.Counts.{size-ext, size-none, size-less, size-some}

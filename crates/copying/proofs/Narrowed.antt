@@ -1,22 +1,22 @@
 -- The words after a keep.
-use mathlib.Core.Path.{_≡_, refl, sym, ap, ap₂, subst, fun-ext, _∙_}
-use mathlib.Core.Bool.{Bool, true, false, cond, not, _&&_, _||_}
-use mathlib.Core.List.{List, [], _∷_}
+use mathlib.Core.Path.{_≡_, sym, ap, ap₂, fun-ext, _∙_}
+use mathlib.Core.Bool.{Bool, true, cond, _&&_}
+use mathlib.Core.List.{List}
 use mathlib.Core.Logic.{_⊎_, inl, inr, ⊎-elim}
 use Prim.Native.Nat.{ℕ, _+_, _-_, _*_, _^_, _≤_, _<_}
 use native.Mathlib.Omega.{arith}
 use lib.Bits.{bitAnd}
 use lib.Dec.{eqb, leb, ltb}
 use lib.IntN.{ℤ}
-use lib.ListN.{length, getD, set, take, drop}
+use lib.ListN.{length, getD, set, drop}
 use Rattle.std.proofs.shelf.Lists.{getD-set-same, getD-set-other, getD-take, getD-drop, length-take, length-drop, take-all}
-use Rattle.std.proofs.shelf.Tests.{cases-lt, cases-eq, lt-ltb, le-ltb, le-leb, cond-true}
+use Rattle.std.proofs.shelf.Tests.{cases-lt, cases-eq, lt-ltb, le-leb}
 use Rattle.std.proofs.shelf.Ways.{tells}
 use Rattle.tables.specs.Rows.{inRow}
-use Rattle.tables.specs.Tables.{Table, Domain, sizeOf, kept}
+use Rattle.tables.specs.Tables.{Domain, sizeOf, kept}
 use Rattle.tables.proofs.Keeps.{kept-here, kept-beside}
 use Rattle.copying.specs.Memory.{need, rowIn, tableIn, savedIn, written, meet}
-use Rattle.copying.proofs.Blocks.{first-place, row-below, row-past, row-ext, table-ext, saved-ext, is-written, row-beside, row-inside, drop-written, row-room, row-apart}
+use Rattle.copying.proofs.Blocks.{first-place, row-below, row-past, saved-ext, is-written, row-beside, row-inside, drop-written, row-room, row-apart}
 use Rattle.copying.proofs.Meets.{getD-meet, length-meet, in-meet, lost, gone, lost-size, gone-size}
 
 -- the words vs are ws with the first m words of a row met in at place p

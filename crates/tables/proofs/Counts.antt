@@ -1,20 +1,20 @@
 -- Counts over the numbers below a bound, and the sizes of domains.
 use mathlib.Core.Path.{_≡_, refl, sym, ap, ap₂, subst, _∙_}
-use mathlib.Core.Bool.{Bool, true, false, cond, not, _&&_, _||_}
-use mathlib.Core.List.{List, [], _∷_}
-use mathlib.Core.Logic.{_⊎_, inl, inr, ⊎-elim}
-use Prim.Native.Nat.{ℕ, zero, suc, _+_, _-_, _*_, _/_, _%_, _^_, _≤_, _<_}
-use native.Mathlib.Nat.{mod-eq-of-lt, add-zero, zero-add, add-suc}
+use mathlib.Core.Bool.{Bool, true, false, cond, not}
+use mathlib.Core.List.{List}
+use mathlib.Core.Logic.{_⊎_, ⊎-elim}
+use Prim.Native.Nat.{ℕ, zero, suc, _+_, _-_, _*_, _^_, _≤_, _<_}
+use native.Mathlib.Nat.{mod-eq-of-lt, add-zero, add-suc}
 use native.Mathlib.Omega.{arith}
 use lib.Count.{ones}
 use lib.IntN.{ℤ}
-use lib.ListN.{length, getD}
-use Rattle.std.proofs.shelf.Tests.{both-ways, cases-bool, cases-lt}
+use lib.ListN.{getD}
+use Rattle.std.proofs.shelf.Tests.{both-ways, cases-lt}
 use Rattle.tables.specs.Values.{isValue, place, valueAt}
 use Rattle.tables.specs.Rows.{bit, atPlace, inRow}
 use Rattle.tables.specs.Tables.{Domain, count, sizeOf}
 use Rattle.tables.proofs.Words.{count-bits}
-use Rattle.tables.proofs.Places.{at-word, at-past, in-row-at, value-at, valueAt-place, place-below}
+use Rattle.tables.proofs.Places.{at-word, in-row-at, value-at, valueAt-place, place-below}
 
 one-le : (b : Bool) → cond b 1 0 ≤ 1
 one-le true = omega arith

@@ -2,15 +2,15 @@
 use mathlib.Core.Path.{_≡_, refl, sym, ap, ap₂, subst, _∙_}
 use mathlib.Core.Bool.{Bool, true, false, cond, not, _&&_, _||_}
 use mathlib.Core.Logic.{_⊎_, inl, inr, ⊎-elim}
-use Prim.Native.Nat.{ℕ, zero, suc, _+_, _-_, _*_, _/_, _%_, _^_, _≤_, _<_, min, max}
-use native.Mathlib.Nat.{zero-div, mod-eq-of-lt, div-eq-of-lt, pow-suc, not-suc-le-zero, le-of-suc-le-suc, lt-of-lt-of-le, mul-sub, mul-comm, mul-one}
+use Prim.Native.Nat.{ℕ, zero, suc, _+_, _-_, _*_, _/_, _%_, _^_, _≤_, _<_}
+use native.Mathlib.Nat.{mod-eq-of-lt, div-eq-of-lt, pow-suc, mul-sub, mul-comm}
 use native.Mathlib.Omega.{arith}
 use lib.Dec.{eqb, ltb}
 use lib.Bits.{bitAnd, bitOr, and-shr, and-mod, or-shr, or-mod, and-zero-l, or-zero-l}
-use lib.Pow.{ones-split, high, low, split, pow-mono, pow-lt, shr-lt}
-use lib.Count.{ones, ones-cat, ones-step}
+use lib.Pow.{ones-split, high, split, pow-mono, pow-lt, shr-lt}
+use lib.Count.{ones, ones-cat}
 use Rattle.std.proofs.shelf.Bits.{pow-pos, pow-add, shl-shr, mod-pow-add, mul-le}
-use Rattle.std.proofs.shelf.Tests.{cases-lt, lt-ltb, le-ltb, eq-eqb, ne-eqb, cases-order, eqb-true, eqb-false, cases-bool, both-ways}
+use Rattle.std.proofs.shelf.Tests.{cases-lt, lt-ltb, le-ltb, eq-eqb, ne-eqb, cases-order, both-ways}
 use Rattle.tables.specs.Rows.{bit}
 use Rattle.tables.specs.Tables.{count}
 

@@ -1,6 +1,6 @@
 -- The lowest and the highest set bit of a word, by the zeros below and above it.
 use mathlib.Core.Path.{_≡_, refl, sym, ap, subst, _∙_}
-use mathlib.Core.Bool.{Bool, true, false}
+use mathlib.Core.Bool.{true, false}
 use mathlib.Core.Logic.{⊎-elim}
 use Prim.Native.Nat.{ℕ, zero, suc, _+_, _-_, _*_, _/_, _%_, _^_, _≤_, _<_}
 use native.Mathlib.Nat.{not-suc-le-zero, le-of-suc-le-suc, pow-suc, zero-div, lt-of-le-of-lt, div-eq-of-lt-le}
@@ -8,7 +8,7 @@ use native.Mathlib.Omega.{arith}
 use lib.Count.{trailingZeros, leadingZeros, under}
 use lib.Dec.{eqb}
 use lib.Pow.{pow-mono}
-use Rattle.std.proofs.shelf.Bits.{shr-shr, shr-le, leading-top, pow-pos}
+use Rattle.std.proofs.shelf.Bits.{shr-shr, shr-le, leading-top}
 use Rattle.std.proofs.shelf.Tests.{cases-lt, both-ways}
 use Rattle.tables.specs.Rows.{bit}
 use Rattle.tables.proofs.Words.{bit-past}

@@ -1,5 +1,3 @@
-ghost use mathlib.Core.Path.{_≡_};
-
 // Why a store refuses.
 #[derive(Clone, Copy, PartialEq, Eq, Debug)]
 pub enum StoreFault {

@@ -1,11 +1,11 @@
 // Rows: sets of values as sixteen words, passed as values, and what is read of the words of a domain.
 ghost use mathlib.Core.Path.{_≡_};
-ghost use mathlib.Core.Bool.{Bool, true, false, cond, not, _&&_, _||_};
-ghost use Prim.Native.Nat.{ℕ, _+_, _-_, _*_, _/_, _%_, _^_, _<_, _≤_};
-ghost use lib.Dec.{eqb, leb, ltb};
+ghost use mathlib.Core.Bool.{true, false, not, _&&_, _||_};
+ghost use Prim.Native.Nat.{ℕ, _+_, _-_, _*_, _/_, _%_, _<_, _≤_};
+ghost use lib.Dec.{ltb};
 ghost use lib.IntN.{ℤ, pos, negsuc};
 ghost use lib.Signed.{leZ, ltZ, _≤ℤ_};
-ghost use lib.ListN.{length, getD};
+ghost use lib.ListN.{length};
 ghost use Rattle.std.specs.Options.{Cases};
 ghost use Rattle.tables.specs.Values.{isValue, place, equalZ};
 ghost use Rattle.tables.specs.Rows.{bit, atPlace, inRow, First, Final};
@@ -158,7 +158,7 @@ pub fn size(row: &[u64]) -> usize
 
 // The lowest set bit of a word at or above `from`.
 fn next_bit(word: u64, from: usize) -> Option<usize>
-    requires { ⌜ from < 64 ⌝ }
+    requires within { ⌜ from < 64 ⌝ }
     ensures { λ r. ⌜ First (bit word) from 64 r ⌝ }
 {
     let rest = word >> from;
@@ -204,7 +204,7 @@ fn last_bit(word: u64, end: usize) -> Option<usize>
 
 // The last place below `end` whose bit is set.
 fn last_place(row: &[u64], end: usize) -> Option<usize>
-    requires { ⌜ end ≤ 1024 ⌝ }
+    requires within { ⌜ end ≤ 1024 ⌝ }
     ensures { λ r. ⌜ Final (atPlace (now (row .entry))) end r ⌝ }
 {
     let mut j = row.len().min(16).min(end / 64 + 1);

@@ -1,12 +1,12 @@
 // What a caller knows of the words that it lent, and the edges of every limit, which the tests run.
 ghost use mathlib.Core.Path.{_≡_};
-ghost use Prim.Native.Nat.{ℕ, _+_, _*_, _≤_};
+ghost use Prim.Native.Nat.{_≤_};
 ghost use mathlib.Core.Bool.{not};
 ghost use lib.Dec.{eqb};
 ghost use Rattle.std.specs.Results.{Cases};
 ghost use Rattle.tables.specs.declared.fault.StoreFault.the-variants.{Full};
 ghost use lib.ListN.{length, drop};
-ghost use Rattle.copying.specs.Memory.{need, tableIn, narrowed};
+ghost use Rattle.copying.specs.Memory.{need, tableIn};
 ghost use Rattle.tables.specs.Tables.{kept, sizeOf};
 ghost use Rattle.trials.specs.Examples.{Computes};
 use copying::Copying;

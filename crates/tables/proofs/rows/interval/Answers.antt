@@ -1,21 +1,18 @@
-use mathlib.Core.Path.{_≡_, refl, sym, ap, ap₂, subst, _∙_}
+use mathlib.Core.Path.{_≡_, refl, ap, ap₂, _∙_}
 use mathlib.Core.Bool.{Bool, true, false, not, _&&_}
-use mathlib.Core.List.{List}
-use Prim.Native.Nat.{ℕ, _+_, _-_, _*_, _^_, _<_, _≤_}
+use Prim.Native.Nat.{ℕ, _+_, _-_, _*_, _^_, _<_}
 use native.Mathlib.Omega.{arith}
 use borrow.Author.Count.{below-more}
-use borrow.Author.Needs.{needs}
 use lib.Bits.{bitAnd}
-use lib.Dec.{ltb, leb}
-use lib.IntN.{ℤ, pos, _+ℤ_}
-use lib.ListN.{length, getD, set}
+use lib.Dec.{ltb}
+use lib.IntN.{ℤ}
 use lib.Signed.{leZ, ltZ}
 use mathlib.Core.Logic.{_≢_}
 use Rattle.std.proofs.shelf.Lists.{length-set, getD-set-same, getD-set-other}
 use Rattle.std.proofs.shelf.Signed.{ints, toZ-ofZ}
 use Rattle.std.proofs.shelf.Ways.{tells}
-use Rattle.tables.specs.Values.{isValue, place}
-use Rattle.tables.specs.Rows.{bit, inRow}
+use Rattle.tables.specs.Values.{isValue}
+use Rattle.tables.specs.Rows.{bit}
 use Rattle.tables.proofs.Words.{bit-and, bit-not}
 use Rattle.tables.proofs.Places.{row-by-words}
 use Rattle.tables.proofs.rows.interval.Needs as need

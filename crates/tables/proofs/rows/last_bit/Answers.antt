@@ -1,7 +1,7 @@
-use mathlib.Core.Path.{_≡_, refl, sym, ap, subst, _∙_}
+use mathlib.Core.Path.{_≡_, refl, sym, ap, _∙_}
 use mathlib.Core.Bool.{Bool, true, false, _&&_}
 use mathlib.Core.Logic.{⊎-elim}
-use Prim.Native.Nat.{ℕ, _-_, _^_, _<_, _≤_}
+use Prim.Native.Nat.{ℕ, _-_, _^_, _<_}
 use native.Mathlib.Omega.{arith}
 use borrow.Author.Needs.{needs}
 use lib.Bits.{bitAnd, and-lt}
@@ -10,7 +10,7 @@ use lib.Dec.{ltb}
 use lib.Pow.{pow-mono}
 use Rattle.std.proofs.shelf.Tests.{cases-lt, lt-ltb, ltb-true, and-parts}
 use Rattle.tables.specs.Rows.{bit, Final}
-use Rattle.std.specs.declared.option.Option.the-variants.{Some, None}
+use Rattle.std.specs.declared.option.Option.the-variants.{Some}
 use Rattle.tables.proofs.Words.{bit-and, bit-past, bit-zero}
 use Rattle.tables.proofs.Zeros.{highest}
 use Rattle.tables.proofs.rows.last_bit.Needs as need

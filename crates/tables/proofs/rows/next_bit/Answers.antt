@@ -6,4 +6,4 @@ pub returns-then-rest-eq0 : need.returns-then-rest-eq0
 returns-then-rest-eq0 c k h l = none-above (c .args .word) (c .args .from) (c .if-rest-eq0 .taken) k h
 
 pub returns : need.returns
-returns c = lowest (c .args .word) (c .args .from) (c .pre) (search needs) (c .if-rest-eq0 .left)
+returns c = lowest (c .args .word) (c .args .from) (c .pre .within) (search needs) (c .if-rest-eq0 .left)

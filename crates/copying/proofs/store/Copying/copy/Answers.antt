@@ -1,9 +1,8 @@
 use mathlib.Core.Path.{_≡_, refl, subst, _∙_}
 use mathlib.Core.Logic.{inl, inr, ⊎-elim}
-use Prim.Native.Nat.{ℕ, _+_, _*_, _≤_}
+use Prim.Native.Nat.{_*_}
 use native.Mathlib.Omega.{arith}
 use denote.Ref.{now}
-use lib.ListN.{length}
 use Rattle.std.proofs.shelf.Lists.{length-set}
 use Rattle.copying.proofs.Copies.{Copied, copied-none, copied-more, is-copied, block-room, blocks-apart}
 use Rattle.copying.proofs.store.Copying.copy.Needs as needs-of

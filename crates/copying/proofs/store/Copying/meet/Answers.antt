@@ -1,21 +1,18 @@
-use mathlib.Core.Path.{_≡_, refl, sym, ap, ap₂, subst, _∙_}
-use mathlib.Core.Bool.{Bool, true, false, cond, not, _&&_, _||_}
-use mathlib.Core.List.{List, [], _∷_}
-use Prim.Native.Nat.{ℕ, _+_, _-_, _*_, _^_, _<_, _≤_}
+use mathlib.Core.Path.{_≡_, sym, ap, ap₂, subst, _∙_}
+use mathlib.Core.Bool.{Bool, not, _&&_, _||_}
+use Prim.Native.Nat.{ℕ, _-_, _*_, _^_, _<_}
 use native.Mathlib.Omega.{arith}
 use borrow.Author.Count.{below-more}
 use borrow.Author.Needs.{needs}
-use denote.Ref.{now, name}
+use denote.Ref.{now}
 use lib.Bits.{bitAnd}
 use lib.Dec.{eqb, ltb}
 use lib.ListN.{length, getD, drop}
 use Rattle.std.proofs.shelf.Lists.{length-set}
-use Rattle.std.proofs.shelf.Tests.{le-ltb, cond-true, cond-false, lt-ltb, eq-eqb}
+use Rattle.std.proofs.shelf.Tests.{cond-true, lt-ltb}
 use Rattle.tables.specs.Tables.{Table, sizeOf}
-use Rattle.tables.proofs.Counts.{size-none}
-use Rattle.tables.proofs.Keeps.{kept-is, kept-outside, nothing-outside}
+use Rattle.tables.proofs.Keeps.{kept-is}
 use Rattle.copying.specs.Memory.{need, rowIn, tableIn, savedIn, narrowed}
-use Rattle.copying.specs.Facts.{table-shaped}
 use Rattle.copying.proofs.Blocks.{frame-is}
 use Rattle.copying.proofs.Meets.{lost, gone, lost-more, gone-more}
 use Rattle.copying.proofs.Narrowed.{Met, met-more, read-word, met-words, is-narrowed, keeps-table, keeps-saved, keeps-spare, shrinks, empties}
