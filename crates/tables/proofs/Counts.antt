@@ -65,10 +65,6 @@ count-less p q (suc n) f m h a b =
 
 -- ---- the sizes of domains
 
-pub size-bound : (d : Domain) → sizeOf d ≤ 1024
-unfolding sizeOf
-size-bound d = count-le (λ p. d (valueAt p)) 1024
-
 -- where the domains are the same at each value
 pub size-ext : (d e : Domain) → ((v : ℤ) → isValue v ≡ true → d v ≡ e v) → sizeOf d ≡ sizeOf e
 unfolding sizeOf
@@ -77,10 +73,6 @@ size-ext d e f = count-ext (λ p. d (valueAt p)) (λ p. e (valueAt p)) 1024 (λ 
 pub size-none : (d : Domain) → ((v : ℤ) → isValue v ≡ true → d v ≡ false) → sizeOf d ≡ 0
 unfolding sizeOf
 size-none d f = count-none (λ p. d (valueAt p)) 1024 (λ k h. f (valueAt k) (value-at k h))
-
-pub size-le : (d e : Domain) → ((v : ℤ) → d v ≡ true → e v ≡ true) → sizeOf d ≤ sizeOf e
-unfolding sizeOf
-size-le d e f = count-mono (λ p. d (valueAt p)) (λ p. e (valueAt p)) 1024 (λ k h. f (valueAt k))
 
 -- a value of e that d has lost
 pub size-less : (d e : Domain) → ((v : ℤ) → d v ≡ true → e v ≡ true) → (v : ℤ) → isValue v ≡ true → e v ≡ true → d v ≡ false → sizeOf d < sizeOf e
