@@ -10,7 +10,7 @@ use lib.Bits.{bitAnd, and-zero-l, and-zero-r, and-lt}
 use lib.Dec.{eqb, ltb}
 use lib.IntN.{ℤ}
 use lib.ListN.{length, getD}
-use Rattle.std.proofs.shelf.Tests.{cases-lt, lt-ltb, le-ltb, cases-bool, eq-eqb, ne-eqb, eqb-true, eqb-false, and-parts, both-ways, or-parts, or-cases, and-cases, not-true}
+use Rattle.std.proofs.shelf.Tests.{cases-lt, lt-ltb, le-ltb, cases-bool, eq-eqb, ne-eqb, eqb-true, eqb-false, and-parts, both-ways, or-parts, or-cases, and-cases, and-right, not-true}
 use Rattle.tables.specs.Values.{isValue, place, valueAt}
 use Rattle.tables.specs.Rows.{bit, atPlace, inRow}
 use Rattle.tables.specs.Tables.{sizeOf}
@@ -40,10 +40,6 @@ in-meet xs ys v =
     ap (λ (b : Bool). isValue v && b)
     (ap (λ w. bit w (place v % 64)) (getD-meet xs ys (place v / 64)) ∙ bit-and (getD xs (place v / 64) 0) (getD ys (place v / 64) 0) (place v % 64))
     ∙ and-both (isValue v) (atPlace xs (place v)) (atPlace ys (place v))
-
-and-false : (b : Bool) → (b && false) ≡ false
-and-false true = refl
-and-false false = refl
 
 -- some of the first k words loses a bit
 abbrev pub lost : List ℕ → List ℕ → ℕ → Bool
@@ -166,7 +162,7 @@ module _ (xs ys : List ℕ) (fits : (j : ℕ) → j < 16 → getD xs j 0 < 2 ^ 6
       all t =
           t ∙ sym (eq-eqb _ _ (size-none (inRow (meet xs ys)) (λ v h.
           let p = place-below v h in
-          ap (λ w. isValue v && bit w (place v % 64)) (getD-meet xs ys (place v / 64) ∙ all-gone xs ys 16 t (place v / 64) (omega arith)) ∙ ap (λ (b : Bool). isValue v && b) (bit-zero (place v % 64)) ∙ and-false (isValue v))))
+          ap (λ w. isValue v && bit w (place v % 64)) (getD-meet xs ys (place v / 64) ∙ all-gone xs ys 16 t (place v / 64) (omega arith)) ∙ and-right (isValue v) (bit 0 (place v % 64)) (bit-zero (place v % 64)))))
 
       some : gone xs ys 16 ≡ false → gone xs ys 16 ≡ eqb (sizeOf (inRow (meet xs ys))) 0
       some t =

@@ -11,7 +11,7 @@ use lib.IntN.{ℤ, pos, negsuc, _+ℤ_}
 use lib.Signed.{_≤ℤ_}
 use lib.ListN.{length, getD, set}
 use Rattle.std.proofs.shelf.Lists.{getD-past, getD-set-same, getD-set-other}
-use Rattle.std.proofs.shelf.Bits.{pow-below}
+use Rattle.std.proofs.shelf.Bits.{pow-below, one-shl}
 use Rattle.std.proofs.shelf.Ways.{same-from-decides, decides-eqb}
 use Rattle.std.proofs.shelf.Signed.{ints}
 use Rattle.std.proofs.shelf.Tests.{leb-true, and-parts, and-from, eqb-true, eq-eqb, ne-eqb, cases-eq, cond-true, cond-false}
@@ -144,22 +144,22 @@ at-drop row p q h =
     ∙ and-under (eqb (q / 64) (p / 64)) (eqb (q % 64) (p % 64)) (atPlace row q)
     ∙ ap (λ (b : Bool). atPlace row q && not b) (eqb-place q p)
 
-split-or : (a b c : Bool) → (a && (b || c)) ≡ ((a && b) || (a && c))
+pub split-or : (a b c : Bool) → (a && (b || c)) ≡ ((a && b) || (a && c))
 split-or true b c = refl
 split-or false b c = refl
 
-split-and : (a b c : Bool) → (a && (b && not c)) ≡ ((a && b) && not (a && c))
+pub split-and : (a b c : Bool) → (a && (b && not c)) ≡ ((a && b) && not (a && c))
 split-and true b c = refl
 split-and false b c = refl
 
-pub put-in : (row new : List ℕ) (v : ℤ) → isValue v ≡ true → ((q : ℕ) → atPlace new q ≡ (atPlace row q || eqb q (place v))) → (u : ℤ) → inRow new u ≡ (inRow row u || equalZ u v)
-put-in row new v h e u =
-    ap (λ (b : Bool). isValue u && b) (e (place u))
-    ∙ split-or (isValue u) (atPlace row (place u)) (eqb (place u) (place v))
-    ∙ ap (λ (b : Bool). inRow row u || b) (same-place u v h)
-
-pub take-out : (row new : List ℕ) (v : ℤ) → isValue v ≡ true → ((q : ℕ) → atPlace new q ≡ (atPlace row q && not (eqb q (place v)))) → (u : ℤ) → inRow new u ≡ (inRow row u && not (equalZ u v))
-take-out row new v h e u =
-    ap (λ (b : Bool). isValue u && b) (e (place u))
-    ∙ split-and (isValue u) (atPlace row (place u)) (eqb (place u) (place v))
-    ∙ ap (λ (b : Bool). inRow row u && not b) (same-place u v h)
+-- What a change of one bit at a value's place makes of the values: `word` is the new word by its mask, as `1 << k` gives it, and `f` says of a bit and of whether it is the one that changes what
+-- the bit becomes.
+pub one-changed : (row : List ℕ) (v : ℤ) (p : ℕ) (word : ℕ → ℕ) (f : Bool → Bool → Bool) → isValue v ≡ true → p ≡ place v
+    → ((q : ℕ) → atPlace (set row (p / 64) (word (2 ^ (p % 64)))) q ≡ f (atPlace row q) (eqb q p))
+    → ((a b c : Bool) → (a && f b c) ≡ f (a && b) (a && c))
+    → (u : ℤ) → inRow (set row (p / 64) (word ((1 * 2 ^ (p % 64)) % 2 ^ 64))) u ≡ f (inRow row u) (equalZ u v)
+one-changed row v p word f h e at split u =
+    ap (λ m. inRow (set row (p / 64) (word m)) u) (one-shl (p % 64) 64 (omega arith))
+    ∙ ap (λ (b : Bool). isValue u && b) (at (place u) ∙ ap (λ i. f (atPlace row (place u)) (eqb (place u) i)) e)
+    ∙ split (isValue u) (atPlace row (place u)) (eqb (place u) (place v))
+    ∙ ap (f (inRow row u)) (same-place u v h)
