@@ -26,7 +26,7 @@ fn place_of(v: i32) -> Option<usize>
 }
 
 // Whether the bit of a place is set.
-fn at_place(row: &[u64], p: usize) -> bool
+pub fn at_place(row: &[u64], p: usize) -> bool
     ensures { λ r. ⌜ r ≡ atPlace (now (row .entry)) p ⌝ }
 {
     p / 64 < row.len() && (row[p / 64] >> (p % 64)) & 1 == 1
@@ -169,7 +169,7 @@ fn next_bit(word: u64, from: usize) -> Option<usize>
 }
 
 // The first place at or above `from` whose bit is set.
-fn next_place(row: &[u64], from: usize) -> Option<usize>
+pub fn next_place(row: &[u64], from: usize) -> Option<usize>
     ensures { λ r. ⌜ First (atPlace (now (row .entry))) from 1024 r ⌝ }
 {
     for j in from / 64..row.len().min(16) {

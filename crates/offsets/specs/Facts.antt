@@ -1,0 +1,1 @@
+-- Short proofs that ghost members name.

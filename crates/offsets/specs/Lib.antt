@@ -1,0 +1,3 @@
+pub mod Offsets
+pub mod Meaning
+pub mod Facts

@@ -1,0 +1,2 @@
+-- Short proofs that ghost members name.
+use mathlib.Core.Path.{_≡_}
