@@ -55,5 +55,5 @@ pub record Lawful (n : ℕ) (r : Rule) : Type 0 where
   -- 4. Where every domain has one value and filtering changes nothing, that assignment obeys.
   pub decides : (d : Table) → Shaped n d → Single n d → Same n (r .filter d) d → (a : Assignment) → In n d a → r .obeyed a ≡ true
   -- 5. Only watched domains change, and what is left of these depends on these alone.
-  pub outside : (d : Table) → Shaped n d → (isVoid n (r .filter d) ≡ true) ⊎ ((x : ℕ) → r .watches x ≡ false → r .filter d x ≡ d x)
+  pub outside : (d : Table) → Shaped n d → (x : ℕ) → r .watches x ≡ false → r .filter d x ≡ d x
   pub local : (d e : Table) → Shaped n d → Shaped n e → isVoid n d ≡ false → isVoid n e ≡ false → Agree r d e → ((isVoid n (r .filter d) ≡ true) × (isVoid n (r .filter e) ≡ true)) ⊎ Agree r (r .filter d) (r .filter e)
