@@ -4,3 +4,8 @@ pub mod Settling
 pub mod Ordering
 pub mod Starting
 pub mod Living
+pub mod Counting
+pub mod Assigning
+pub mod Working
+pub mod Fixing
+pub mod Keeping
