@@ -13,7 +13,7 @@ use Rattle.rules.specs.declared.fault.RuleFault.{RuleFault}
 use Rattle.rules.specs.declared.fault.RuleFault.the-variants.{Count, Variable, Value, Length}
 use Rattle.rules.specs.declared.ran.Ran.{Ran}
 use Rattle.rules.specs.declared.ran.Ran.the-variants.{Failed, Done}
-use Rattle.rules.specs.Rules.{Rule}
+use Rattle.rules.specs.Rules.{Rule, Lawful}
 
 -- the number of each refusal
 abbrev pub numberOf : RuleFault → ℕ
@@ -46,6 +46,10 @@ countOf rules = cond (leb (length rules) 256) (length rules) 257
 -- the rule of a number: nobody past the last, and in a bank of more than 256
 abbrev pub called : List Rule → ℕ → Rule
 called rules i = cond (leb (length rules) 256) (getD rules i nobody) nobody
+
+-- each rule of a list keeps the laws over every number of variables that it fits
+abbrev pub Lawfully : List Rule → Type 0
+Lawfully rules = (i n : ℕ) → called rules i .fit n ≡ Ok tt → Lawful n (called rules i)
 
 -- whether rule i watches one of a set of variables
 unfoldable pub woken : List Rule → (ℕ → Bool) → ℕ → Bool

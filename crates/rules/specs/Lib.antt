@@ -1,3 +1,4 @@
 pub mod Rules
 pub mod Banks
+pub mod Joins
 pub mod Facts

@@ -1,12 +1,11 @@
 // What a bank of rules means, and what each bank promises.
 ghost use mathlib.Core.Path.{_≡_};
-ghost use mathlib.Core.Bool.{true, false};
+ghost use mathlib.Core.Bool.{false};
 ghost use mathlib.Core.List.{List};
 ghost use Prim.Native.Nat.{ℕ, _≤_};
 ghost use Rattle.std.specs.Results.{isOk};
-ghost use Rattle.std.specs.declared.result.Result.the-variants.{Ok};
-ghost use Rattle.rules.specs.Rules.{Rule, Lawful};
-ghost use Rattle.rules.specs.Banks.{inSet, nothing, countOf, called, woken, Run};
+ghost use Rattle.rules.specs.Rules.{Rule};
+ghost use Rattle.rules.specs.Banks.{Lawfully, inSet, nothing, countOf, called, woken, Run};
 ghost use Rattle.rules.specs.declared.ran.Ran.the-variants.{Done};
 use crate::fault::RuleFault;
 use crate::ran::Ran;
@@ -20,7 +19,7 @@ pub trait Bank {
     ghost rules: { Self → List Rule };
 
     // each rule keeps the five laws over every number of variables that it fits; this stands for a law of the trait
-    ghost lawful: { (b : Self) (i n : ℕ) → called (rules b) i .fit n ≡ Ok tt → Lawful n (called (rules b) i) };
+    ghost lawful: { (b : Self) → Lawfully (rules b) };
 
     // The number of rules, or 257 where there are more than 256.
     fn rules(&self) -> usize
