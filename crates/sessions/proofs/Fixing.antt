@@ -19,7 +19,8 @@ use Rattle.sessions.specs.Worlds.{World, isFailed, refusal, aimed, ordered}
 use Rattle.sessions.specs.Steps.{values, woke, Outcome, settled, failed, Settles, rests, fails, runs, stirredBy, brokenBy, settledBy, savedBy, restoredBy, Step, refused, stirs, empties, settles, breaks, saves, restores}
 use Rattle.sessions.specs.Promises.{Alike}
 use Rattle.sessions.proofs.Ordering.{some-is}
-use Rattle.sessions.proofs.Starting.{some-none, settle-granted}
+use Rattle.sessions.proofs.Starting.{some-none, order-granted, settle-granted, save-granted, restore-granted}
+use Rattle.sessions.specs.declared.standing.Standing.the-variants as standing
 use Rattle.sessions.proofs.Working.{failed-settled}
 
 -- ---- settling
@@ -116,3 +117,13 @@ module _ (n most : ℕ) (rules : List Rule) (w : World) where
   step-only full (breaks {t = t} {i = i} {k = k} r run is) b v s = let q = breaks-step t i k (full (settle-granted n most w r)) r run s in (q .0, subst (λ (z : World). Alike v z) (sym is) (q .1))
   step-only full (saves r is) b v s = let q = saves-only r s in (q .0, alike-same (q .1 ∙ sym is))
   step-only full (restores r is) b v s = let q = restores-only r s in (q .0, alike-same (q .1 ∙ sym is))
+
+  -- failed with no save of its own: nothing changes any more
+  pub stuck : w .standing ≡ standing.Failed → w .saves ≡ 0 → (c : Call) (a : Answer) (v : World) → Step n most rules w v c a → v ≡ w
+  stuck f z c _ v (refused r is) = is
+  stuck f z c _ v (stirs {x = x} e r some is) = absurd (both-ways _ (order-granted n most w c x e r .0) (ap isFailed f))
+  stuck f z c _ v (empties {x = x} e r none is) = absurd (both-ways _ (order-granted n most w c x e r .0) (ap isFailed f))
+  stuck f z _ _ v (settles r run is) = absurd (both-ways _ (settle-granted n most w r) (ap isFailed f))
+  stuck f z _ _ v (breaks r run is) = absurd (both-ways _ (settle-granted n most w r) (ap isFailed f))
+  stuck f z _ _ v (saves r is) = absurd (both-ways _ (ap isFailed (save-granted n most w r)) (ap isFailed f))
+  stuck f z _ _ v (restores r is) = absurd (restore-granted n most w r .0 z)

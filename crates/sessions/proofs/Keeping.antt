@@ -1,16 +1,17 @@
 -- The promises hold after every history, for every lawful bank.
 use mathlib.Core.Path.{_≡_, refl, sym, ap, subst, fun-ext, _∙_}
 use mathlib.Core.Bool.{Bool, true, false}
-use mathlib.Core.List.{List, [], _∷_}
+use mathlib.Core.List.{List, [], _∷_, _++_}
 use Prim.Native.Nat.{ℕ, _+_, _≤_, _<_}
+use native.Mathlib.Omega.{arith}
 use lib.IntN.{ℤ}
 use lib.ListN.{length}
 use Rattle.std.specs.declared.option.Option.the-variants.{None}
-use Rattle.std.specs.declared.result.Result.the-variants.{Ok}
+use Rattle.std.proofs.shelf.Lists.{length-append}
 use Rattle.std.proofs.shelf.Tests.{both-ways}
 use Rattle.tables.specs.Tables.{Table, Shaped, isVoid, Inside}
-use Rattle.rules.specs.Rules.{Rule, Lawful, at}
-use Rattle.rules.specs.Banks.{called}
+use Rattle.rules.specs.Rules.{Rule, at}
+use Rattle.rules.specs.Banks.{Lawfully}
 use Rattle.rules.proofs.Voids.{inside-shaped}
 use Rattle.sessions.specs.declared.standing.Standing.the-variants as standing
 use Rattle.sessions.specs.declared.call.Call.{Call}
@@ -18,29 +19,39 @@ use Rattle.sessions.specs.declared.answer.Answer.{Answer}
 use Rattle.sessions.specs.declared.answer.Answer.the-variants.{Done, Emptied, Settled, Failed, Refused}
 use Rattle.sessions.specs.Worlds.{World, isFailed, refusedStart}
 use Rattle.sessions.specs.Steps.{Step, refused, stirs, empties, settles, breaks, saves, restores, settled}
-use Rattle.sessions.specs.Histories.{History, Lived, begun, stepped, orders, bounds}
-use Rattle.sessions.specs.Promises.{Stable, Greatest, Bounded, Promises, Kept, lost}
+use Rattle.sessions.specs.Histories.{History, Event, Lived, begun, stepped, orders, bounds}
+use Rattle.sessions.specs.Promises.{Stable, Greatest, Bounded, Promises, Kept, Throughout, lost}
 use Rattle.sessions.proofs.Settling.{Fair, Holding, holding-greatest}
 use Rattle.sessions.proofs.Starting.{accepted-fair, settled-stands}
-use Rattle.sessions.proofs.Living.{Sound, sound, lived-begun}
+use Rattle.sessions.proofs.Living.{Noted, Sound, sound, lived-begun}
 use Rattle.sessions.proofs.Assigning.{under-inside, not-lost, none-obeys, same-number, no-number, one-number}
 use Rattle.sessions.proofs.Working.{few-runs}
 use Rattle.sessions.proofs.Fixing.{step-only}
-
--- each rule of a bank keeps the laws where it fits
-abbrev pub Lawfully : List Rule → Type 0
-Lawfully rules = (i n : ℕ) → called rules i .fit n ≡ Ok tt → Lawful n (called rules i)
 
 either : (a b : Bool) → (a ≡ true → b ≡ true) → (b ≡ true → a ≡ true) → a ≡ b
 either true b f g = sym (f refl)
 either false true f g = g refl
 either false false f g = refl
 
+abbrev newestOf : History → Event → Event
+newestOf [] d = d
+newestOf (e ∷ h) d = e
+
+abbrev olderOf : History → History
+olderOf [] = []
+olderOf (e ∷ h) = h
+
 -- tables inside each other are the same
 inside-both : (t u : Table) → Inside t u → Inside u t → t ≡ u
 inside-both t u a b = fun-ext (λ x. fun-ext (λ v. either (t x v) (u x v) (a x v) (b x v)))
 
 module _ (n : ℕ) (rules : List Rule) (few : n ≤ 256) (law : Lawfully rules) where
+  -- each note has its saved table
+  noted-length : {start : Table} (notes : List (List Call)) (saved : List Table) → Noted n rules start notes saved → length notes ≤ length saved
+  noted-length [] saved q = omega arith
+  noted-length (note ∷ notes) [] q = absurd q
+  noted-length {start} (note ∷ notes) (t ∷ saved) q = let m = noted-length {start} notes saved (q .1) in omega arith
+
   -- what holds of a lived history
   living : (most : ℕ) (start : Table) (base : List Table) (h : History) (w : World) → Lived n most rules start base h w → Fair n rules × Sound n rules start h w × Shaped n (bounds start h)
   living most start base h w lived =
@@ -81,6 +92,7 @@ module _ (n : ℕ) (rules : List Rule) (few : n ≤ 256) (law : Lawfully rules) 
           same-number n rules fair b (w .table) (l .2) (holding .inside) (holding .most) ∙ one-number n rules fair b (w .table) (is-greatest most start base h w lived e .stable) single
       ; road = λ e most′ base′ h′ w′ lived′ e′ same. same-road start most base h w most′ base′ h′ w′ lived e lived′ e′ same
       ; waiting = s .waiting
+      ; own = let c = s .counted in let m = noted-length (orders h .notes) (w .saved) (s .noted) in omega arith
       }
 
   work : (most : ℕ) (w w′ : World) (c : Call) (a : Answer) → Fair n rules → Shaped n (w .table) → Step n most rules w w′ c a → Bounded n rules w a w′
@@ -103,3 +115,18 @@ module _ (n : ℕ) (rules : List Rule) (few : n ≤ 256) (law : Lawfully rules) 
       ; bounded = work most w w′ c a (l .0) (l .1 .shaped) step
       ; only = step-only n most rules w (λ e. l .1 .holds e .full) step
       }
+
+  -- all that a history went through
+  beginning : (most : ℕ) (start : Table) (base : List Table) (h : History) (w : World) → Lived n most rules start base h w → (v : World) × Lived n most rules start base [] v × Promises n most rules start base [] v
+  beginning most start base h w (begun {w = v} b) = (v, begun b, keeps-promises most start base [] v (begun b))
+  beginning most start base _ w (stepped {h = h} {w = v} lived step) = beginning most start base h v lived
+
+  each-call : (most : ℕ) (start : Table) (base : List Table) (h : History) (w : World) → Lived n most rules start base h w → (later earlier : History) (e : Event) → h ≡ later ++ (e ∷ earlier) → (v v′ : World) × Lived n most rules start base earlier v × Kept n most rules start base earlier (e .call) (e .answer) v v′
+  each-call most start base _ w (begun b) later earlier e is = absurd (let l = ap length is ∙ length-append later (e ∷ earlier) in omega arith)
+  each-call most start base _ w (stepped {h = h} {w = v} {c = c} {a = a} lived step) [] earlier e is =
+      subst (λ (f : Event). (v v′ : World) × Lived n most rules start base earlier v × Kept n most rules start base earlier (f .call) (f .answer) v v′) (ap (λ (l : History). newestOf l e) is)
+      (subst (λ (g : History). (v v′ : World) × Lived n most rules start base g v × Kept n most rules start base g c a v v′) (ap olderOf is) (v, w, lived, keeps most start base h v w c a step lived))
+  each-call most start base _ w (stepped {h = h} {w = v} lived step) (l ∷ later) earlier e is = each-call most start base h v lived later earlier e (ap olderOf is)
+
+  pub throughout : (most : ℕ) (start : Table) (base : List Table) (h : History) (w : World) → Lived n most rules start base h w → Throughout n most rules start base h w
+  throughout most start base h w lived = record { lived = lived; promises = keeps-promises most start base h w lived; first = beginning most start base h w lived; each = each-call most start base h w lived }

@@ -1,7 +1,7 @@
 -- What holds after every list of calls of a session.
 use mathlib.Core.Path.{_≡_}
 use mathlib.Core.Bool.{Bool, true, false}
-use mathlib.Core.List.{List, [], _∷_}
+use mathlib.Core.List.{List, [], _∷_, _++_}
 use Prim.Native.Nat.{ℕ, _+_, _-_, _*_, _≤_, _<_}
 use lib.ListN.{length}
 use Rattle.tables.specs.Tables.{Table, sizeOf, Shaped, isVoid, Inside, count}
@@ -90,6 +90,12 @@ pub record Promises (n most : ℕ) (rules : List Rule) (start : Table) (base : L
   pub road : w .standing ≡ standing.Settled → (most′ : ℕ) (base′ : List Table) (h′ : History) (w′ : World) → Lived n most′ rules start base′ h′ w′ → w′ .standing ≡ standing.Settled → bounds start h′ ≡ bounds start h → w′ .table ≡ w .table
   -- Which rules wait.
   pub waiting : Waiting rules h w
+  -- The session has no more saves of its own than tables are saved in the store.
+  pub own : w .saves ≤ length (w .saved)
+
+-- nothing that is asked changes a world any more
+abbrev pub Stuck : ℕ → ℕ → List Rule → World → Type 0
+Stuck n most rules w = (c : Call) (a : Answer) (v : World) → Step n most rules w v c a → v ≡ w
 
 -- What is promised of one more call, from the world w to the world w′.
 pub record Kept (n most : ℕ) (rules : List Rule) (start : Table) (base : List Table) (h : History) (c : Call) (a : Answer) (w w′ : World) : Type 0 where
@@ -101,3 +107,12 @@ pub record Kept (n most : ℕ) (rules : List Rule) (start : Table) (base : List 
   pub bounded : Bounded n rules w a w′
   -- no other answer was possible, and no other world but for the table of a failure
   pub only : (b : Answer) (v : World) → Step n most rules w v c b → (b ≡ a) × Alike v w′
+
+-- What is promised of a history and all that it went through: at its beginning, and at each call in it.
+pub record Throughout (n most : ℕ) (rules : List Rule) (start : Table) (base : List Table) (h : History) (w : World) : Type 0 where
+  pub lived : Lived n most rules start base h w
+  pub promises : Promises n most rules start base h w
+  -- before any call
+  pub first : (v : World) × Lived n most rules start base [] v × Promises n most rules start base [] v
+  -- each call in it, with what came before it
+  pub each : (later earlier : History) (e : Event) → h ≡ later ++ (e ∷ earlier) → (v v′ : World) × Lived n most rules start base earlier v × Kept n most rules start base earlier (e .call) (e .answer) v v′

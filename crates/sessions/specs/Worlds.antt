@@ -54,12 +54,13 @@ isNone (t ∷ ts) = false
 abbrev pub when : Bool → SessionFault → Option SessionFault → Option SessionFault
 when b f rest = cond b (Some f) rest
 
--- what a call is refused with, if with anything: n is the number of variables, `most` how many tables can be saved
+-- what a call is refused with, if with anything: n is the number of variables, `most` how many tables can be saved.
+-- No store saves more than 16 tables, so a session counts its own up to 16; on the store it began with that is never met before the store is full.
 abbrev pub refusal : ℕ → ℕ → World → Call → Option SessionFault
 refusal n most w (Strike x v) = when (isFailed (w .standing)) fault.Failed (when (not (ltb x n)) fault.Variable (when (not (isValue v)) fault.Value None))
 refusal n most w (Narrow x lo hi) = when (isFailed (w .standing)) fault.Failed (when (not (ltb x n)) fault.Variable (when (not (isValue lo && (isValue hi && leZ lo hi))) fault.Value None))
 refusal n most w Settle = when (isFailed (w .standing)) fault.Failed None
-refusal n most w Save = when (isFailed (w .standing)) fault.Failed (when (isStirred (w .standing)) fault.Stirred (when (not (ltb (length (w .saved)) most)) (fault.Store store.Full) None))
+refusal n most w Save = when (isFailed (w .standing)) fault.Failed (when (isStirred (w .standing)) fault.Stirred (when (not (ltb (length (w .saved)) most && ltb (w .saves) 16)) (fault.Store store.Full) None))
 refusal n most w Restore = when (eqb (w .saves) 0) fault.NoSave (when (isNone (w .saved)) (fault.Store store.NoSave) None)
 
 -- what a rule's answer says of a beginning: its refusal, or what the later rules say
