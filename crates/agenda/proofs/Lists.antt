@@ -21,9 +21,9 @@ pub member-append : (k : ℕ) (xs ys : List ℕ) → member k (xs ++ ys) ≡ (me
 member-append k [] ys = refl
 member-append k (x ∷ xs) ys = ap (λ (b : Bool). eqb k x || b) (member-append k xs ys) ∙ regroup (eqb k x)
   where
-  regroup : (a : Bool) → (a || (member k xs || member k ys)) ≡ ((a || member k xs) || member k ys)
-  regroup true = refl
-  regroup false = refl
+    regroup : (a : Bool) → (a || (member k xs || member k ys)) ≡ ((a || member k xs) || member k ys)
+    regroup true = refl
+    regroup false = refl
 
 or-false : (a : Bool) → (a || false) ≡ a
 or-false true = refl
@@ -76,20 +76,21 @@ push-tells old new x xs below tells put k =
     ∙ ap (λ (b : Bool). member k xs || b) (and-true (eqb k x))
     ∙ sym (member-push k x xs)
   where
-  and-true : (a : Bool) → (a && true) ≡ a
-  and-true true = refl
-  and-true false = refl
+    and-true : (a : Bool) → (a && true) ≡ a
+    and-true true = refl
+    and-true false = refl
 
 -- the first is told no more
 pub pop-tells : (old new : ℕ → Bool) (x : ℕ) (xs : List ℕ) → member x xs ≡ false → ((k : ℕ) → old k ≡ member k (x ∷ xs)) → ((k : ℕ) → new k ≡ (old k && not (eqb k x))) → (k : ℕ) → new k ≡ member k xs
 pop-tells old new x xs once tells taken k = taken k ∙ ap (λ (b : Bool). b && not (eqb k x)) (tells k) ∙ by (eqb k x) refl
   where
-  and-true : (a : Bool) → (a && true) ≡ a
-  and-true true = refl
-  and-true false = refl
-  by : (b : Bool) → eqb k x ≡ b → ((b || member k xs) && not b) ≡ member k xs
-  by true e = sym (subst (λ j. member j xs ≡ false) (sym (eqb-true k x e)) once)
-  by false e = and-true (member k xs)
+    and-true : (a : Bool) → (a && true) ≡ a
+    and-true true = refl
+    and-true false = refl
+
+    by : (b : Bool) → eqb k x ≡ b → ((b || member k xs) && not b) ≡ member k xs
+    by true e = sym (subst (λ j. member j xs ≡ false) (sym (eqb-true k x e)) once)
+    by false e = and-true (member k xs)
 
 -- ---- the numbers below a bound that pass
 
@@ -98,9 +99,9 @@ pub select-past : (p : ℕ → Bool) (n k : ℕ) → n ≤ k → member k (selec
 select-past p zero k h = refl
 select-past p (suc n) k h = member-neither k (select p n) (cond (p n) (n ∷ []) []) (select-past p n k (omega arith)) (last (p n))
   where
-  last : (b : Bool) → member k (cond b (n ∷ []) []) ≡ false
-  last true = or-from (eqb k n) false (ne-eqb k n (λ e. omega arith)) refl
-  last false = refl
+    last : (b : Bool) → member k (cond b (n ∷ []) []) ≡ false
+    last true = or-from (eqb k n) false (ne-eqb k n (λ e. omega arith)) refl
+    last false = refl
 
 -- one more that passes
 pub select-more : (p : ℕ → Bool) (n : ℕ) → p n ≡ true → select p (n + 1) ≡ select p n ++ n ∷ []

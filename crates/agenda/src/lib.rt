@@ -1,8 +1,8 @@
 // The rules that wait for a run, first come first, none twice.
 ghost use mathlib.Core.Path.{_≡_};
-ghost use mathlib.Core.Bool.{false};
+ghost use mathlib.Core.Bool.{Bool, true, false, not, _&&_};
 ghost use mathlib.Core.List.{[], _∷_, _++_};
-ghost use Prim.Native.Nat.{min, _<_};
+ghost use Prim.Native.Nat.{ℕ, min, _+_, _%_, _<_};
 ghost use Rattle.std.specs.Options.{Cases};
 ghost use Rattle.rules.specs.Banks.{inSet};
 ghost use Rattle.sessions.specs.Agendas.{member, upto, joined};
@@ -52,12 +52,8 @@ impl Agenda {
     pub fn join(&mut self, woken: Set)
         ensures { λ _. ⌜ waits (now (self .exit)) ≡ joined (waits (now (self .entry))) (inSet woken) ⌝ }
     {
-        let new = sets::minus(woken, self.waiting);
-        let mut from = 0;
-        while let Some(rule) = sets::next(new, from) {
-            self.push(rule);
-            from = rule + 1;
-        }
+        let new = self.fresh(woken);
+        self.append(new);
     }
 
     // No rule waits any more.
@@ -67,13 +63,47 @@ impl Agenda {
         *self = Agenda::new();
     }
 
+    // The members of a set that do not wait.
+    fn fresh(&self, woken: Set) -> Set
+        ensures members { λ r. ⌜ ((k : ℕ) → inSet r k ≡ (inSet woken k && not (member k (waits (now (self .entry)))))) ⌝ }
+        ensures none { λ r. ⌜ ((k : ℕ) → inSet r k ≡ true → member k (waits (now (self .entry))) ≡ false) ⌝ }
+    {
+        sets::minus(woken, self.waiting)
+    }
+
+    // The rules of a set of which none waits join the end, ascending.
+    fn append(&mut self, new: Set)
+        requires none { ⌜ ((k : ℕ) → inSet new k ≡ true → member k (waits (now self)) ≡ false) ⌝ }
+        ensures { λ _. ⌜ ((s : ℕ → Bool) → ((k : ℕ) → inSet new k ≡ (s k && not (member k (waits (now (self .entry)))))) → waits (now (self .exit)) ≡ joined (waits (now (self .entry))) s) ⌝ }
+    {
+        let mut from = 0;
+        while let Some(rule) = sets::next(new, from) {
+            self.push(rule);
+            from = rule + 1;
+        }
+    }
+
+    // The place behind the last rule that waits.
+    fn end(&self) -> usize
+        ensures { λ r. ⌜ r ≡ (now (self .entry) .first + now (self .entry) .len) % 256 ⌝ }
+    {
+        (self.first + self.len) % 256
+    }
+
+    // The place behind the first rule that waits.
+    fn second(&self) -> usize
+        ensures { λ r. ⌜ r ≡ (now (self .entry) .first + 1) % 256 ⌝ }
+    {
+        (self.first + 1) % 256
+    }
+
     // Puts a rule that does not wait behind all that do. There is a place for it: at most 255 others wait.
     fn push(&mut self, rule: usize)
         requires below { ⌜ rule < 256 ⌝ }
         requires new { ⌜ member rule (waits (now self)) ≡ false ⌝ }
         ensures { λ _. ⌜ waits (now (self .exit)) ≡ waits (now (self .entry)) ++ rule ∷ [] ⌝ }
     {
-        let at = (self.first + self.len) % 256;
+        let at = self.end();
         self.rules[at] = rule as u8;
         self.len += 1;
         sets::insert(&mut self.waiting, rule);
@@ -86,7 +116,7 @@ impl Agenda {
         ensures below { λ r. ⌜ r < 256 ⌝ }
     {
         let rule = self.rules[self.first] as usize;
-        self.first = (self.first + 1) % 256;
+        self.first = self.second();
         self.len -= 1;
         sets::remove(&mut self.waiting, rule);
         rule

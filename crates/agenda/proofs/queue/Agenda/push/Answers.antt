@@ -8,14 +8,20 @@ pub ghost-self : need.ghost-self
 ghost-self c =
     let s = c .args .self .now in
     let full : length (s .rules) ≡ 256 = search needs in
-    let four : length (s .waiting) ≡ 4 = search needs in
-    (s .low, (push-few (s .rules) (s .waiting) (s .first) (s .len) (c .args .rule) full four (s .apart) (s .tells) (c .pre .below) (c .pre .new)
-    , (push-is-apart (s .rules) (s .waiting) (s .first) (s .len) (c .args .rule) full four (s .apart) (s .tells) (c .pre .below) (c .pre .new)
-    , (push-is-told (s .rules) (s .waiting) (s .first) (s .len) (c .args .rule) full four (s .apart) (s .tells) (c .pre .below) (c .pre .new) (c .insert .last .set) (c .insert .ensures), tt))))
+    let four : length (s .waiting) ≡ 4 = search needs in (
+      s .low,
+      (
+        push-few (s .rules) (s .waiting) (s .first) (s .len) (c .args .rule) full four (s .apart) (s .tells) (c .pre .below) (c .pre .new) (c .end-at .result) (c .end-at .ensures),
+        (
+          push-is-apart (s .rules) (s .waiting) (s .first) (s .len) (c .args .rule) full four (s .apart) (s .tells) (c .pre .below) (c .pre .new) (c .end-at .result) (c .end-at .ensures),
+          (push-is-told (s .rules) (s .waiting) (s .first) (s .len) (c .args .rule) full four (s .apart) (s .tells) (c .pre .below) (c .pre .new) (c .end-at .result) (c .end-at .ensures) (c .insert .last .set) (c .insert .ensures), tt),
+        ),
+      ),
+    )
 
 pub returns : need.returns
 returns c =
     let s = c .args .self .now in
     let full : length (s .rules) ≡ 256 = search needs in
     let four : length (s .waiting) ≡ 4 = search needs in
-    push-is (s .rules) (s .waiting) (s .first) (s .len) (c .args .rule) full four (s .apart) (s .tells) (c .pre .below) (c .pre .new)
+    push-is (s .rules) (s .waiting) (s .first) (s .len) (c .args .rule) full four (s .apart) (s .tells) (c .pre .below) (c .pre .new) (c .end-at .result) (c .end-at .ensures)

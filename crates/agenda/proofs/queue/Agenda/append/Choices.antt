@@ -4,7 +4,7 @@ use Prim.Native.Nat.{_-_, _≤_}
 use Rattle.rules.specs.Banks.{inSet}
 use Rattle.sessions.specs.Agendas.{select}
 use Rattle.agenda.specs.Meaning.{waits}
-use Rattle.agenda.proofs.queue.Agenda.join.Given as given
+use Rattle.agenda.proofs.queue.Agenda.append.Given as given
 
 abbrev pub Inv-loop-rule : given.InvT-loop-rule
 Inv-loop-rule l = (l .from ≤ 256) × (waits (l .self) ≡ waits (l .entry .self) ++ select (inSet (l .new)) (l .from))
