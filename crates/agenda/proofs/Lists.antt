@@ -3,13 +3,13 @@ use mathlib.Core.Path.{_≡_, refl, sym, ap, ap₂, subst, _∙_}
 use mathlib.Core.Bool.{Bool, true, false, cond, not, _&&_, _||_}
 use mathlib.Core.List.{List, [], _∷_, _++_}
 use mathlib.Core.Logic.{⊎-elim}
-use Prim.Native.Nat.{ℕ, zero, suc, _+_, _-_, _≤_, _<_}
+use Prim.Native.Nat.{ℕ, zero, suc, _+_, _≤_, _<_}
 use native.Mathlib.Numerals.{add-one}
 use native.Mathlib.Omega.{arith}
 use lib.Dec.{eqb, ltb}
 use lib.ListN.{length}
 use Rattle.std.proofs.shelf.Lists.{append-nil, append-assoc}
-use Rattle.std.proofs.shelf.Tests.{both-ways, cases-lt, eqb-false, eq-eqb, ne-eqb, lt-ltb, and-from, not-from-false, or-cases, or-from, or-left, or-right, or-parts, eqb-true}
+use Rattle.std.proofs.shelf.Tests.{cases-lt, eqb-false, eq-eqb, ne-eqb, lt-ltb, and-from, not-from-false, or-from, or-left, or-right, or-parts, eqb-true}
 use Rattle.tables.specs.Tables.{count}
 use Rattle.tables.proofs.Counts.{count-le, count-less}
 use Rattle.sessions.specs.Agendas.{member, NoTwice, select}
