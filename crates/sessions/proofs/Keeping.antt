@@ -47,10 +47,10 @@ inside-both t u a b = fun-ext (λ x. fun-ext (λ v. either (t x v) (u x v) (a x 
 
 module _ (n : ℕ) (rules : List Rule) (few : n ≤ 256) (law : Lawfully rules) where
   -- each note has its saved table
-  noted-length : {start : Table} (notes : List (List Call)) (saved : List Table) → Noted n rules start notes saved → length notes ≤ length saved
-  noted-length [] saved q = omega arith
-  noted-length (note ∷ notes) [] q = absurd q
-  noted-length {start} (note ∷ notes) (t ∷ saved) q = let m = noted-length {start} notes saved (q .1) in omega arith
+  noted-length : (start : Table) (notes : List (List Call)) (saved : List Table) → Noted n rules start notes saved → length notes ≤ length saved
+  noted-length start [] saved q = omega arith
+  noted-length start (note ∷ notes) [] q = absurd q
+  noted-length start (note ∷ notes) (t ∷ saved) q = let m = noted-length start notes saved (q .1) in omega arith
 
   -- what holds of a lived history
   living : (most : ℕ) (start : Table) (base : List Table) (h : History) (w : World) → Lived n most rules start base h w → Fair n rules × Sound n rules start h w × Shaped n (bounds start h)
@@ -92,7 +92,7 @@ module _ (n : ℕ) (rules : List Rule) (few : n ≤ 256) (law : Lawfully rules) 
           same-number n rules fair b (w .table) (l .2) (holding .inside) (holding .most) ∙ one-number n rules fair b (w .table) (is-greatest most start base h w lived e .stable) single
       ; road = λ e most′ base′ h′ w′ lived′ e′ same. same-road start most base h w most′ base′ h′ w′ lived e lived′ e′ same
       ; waiting = s .waiting
-      ; own = let c = s .counted in let m = noted-length (orders h .notes) (w .saved) (s .noted) in omega arith
+      ; own = let c = s .counted in let m = noted-length start (orders h .notes) (w .saved) (s .noted) in omega arith
       }
 
   work : (most : ℕ) (w w′ : World) (c : Call) (a : Answer) → Fair n rules → Shaped n (w .table) → Step n most rules w w′ c a → Bounded n rules w a w′

@@ -1,0 +1,40 @@
+-- What a session means, with the store that it works on.
+use mathlib.Core.Path.{_≡_}
+use mathlib.Core.Bool.{Bool, cond}
+use mathlib.Core.List.{List, [], _∷_}
+use Prim.Native.Nat.{ℕ}
+use lib.Dec.{eqb}
+use lib.ListN.{length}
+use Rattle.std.specs.declared.option.Option.{Option}
+use Rattle.std.specs.declared.option.Option.the-variants.{Some, None}
+use Rattle.tables.specs.Tables.{Table, sizeOf}
+use Rattle.tables.specs.Stores.{Frame}
+use Rattle.rules.specs.Rules.{Rule}
+use Rattle.sessions.specs.declared.standing.Standing.the-variants as standing
+use Rattle.sessions.specs.declared.fault.SessionFault.{SessionFault}
+use Rattle.sessions.specs.declared.call.Call.{Call}
+use Rattle.sessions.specs.declared.answer.Answer.{Answer}
+use Rattle.sessions.specs.Agendas.{upto}
+use Rattle.sessions.specs.Worlds.{World}
+use Rattle.sessions.specs.Steps.{Step}
+use Rattle.sessions.specs.Histories.{History, Lived}
+use Rattle.sessions.specs.Promises.{Kept}
+use Rattle.agenda.specs.Meaning.{waits}
+use Rattle.session.specs.declared.state.Session.{Session}
+
+-- the world of a session, with the store's table and saved tables
+abbrev pub world : Session → Table → List Table → World
+world s t saved = record { standing = s .standing; agenda = waits (s .agenda); saves = s .saves; table = t; saved = saved }
+
+-- a call of a session is a step, by what stays of the store and the bank's rules
+abbrev pub Steps : Frame → List Rule → Call → Answer → World → World → Type 0
+Steps f rules c a w w′ = Step (f .vars) (f .most) rules w w′ c a
+
+-- and every history that led to it goes on by it and keeps the promises
+abbrev pub Keeps : Frame → List Rule → Call → Answer → World → World → Type 0
+Keeps f rules c a w w′ = (start : Table) (base : List Table) (h : History) → Lived (f .vars) (f .most) rules start base h w → Kept (f .vars) (f .most) rules start base h c a w w′
+
+-- the world of a beginning: accepted, it stands stirred and all rules wait; refused, it stands failed and none waits
+abbrev pub beginning : Option SessionFault → List Rule → Table → List Table → World
+beginning None rules t saved = record { standing = standing.Stirred; agenda = upto (length rules); saves = 0; table = t; saved = saved }
+beginning (Some f) rules t saved = record { standing = standing.Failed; agenda = []; saves = 0; table = t; saved = saved }
