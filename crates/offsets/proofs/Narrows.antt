@@ -3,7 +3,7 @@ use mathlib.Core.Path.{_≡_, refl, sym, ap, ap₂, subst, fun-ext, _∙_}
 use mathlib.Core.Bool.{Bool, true, false, cond, not, _&&_, _||_}
 use mathlib.Core.List.{List}
 use mathlib.Core.Logic.{⊎-elim}
-use Prim.Native.Nat.{ℕ, _≤_, _<_}
+use Prim.Native.Nat.{ℕ, _≤_}
 use native.Mathlib.Omega.{arith}
 use lib.Dec.{eqb, ltb}
 use lib.IntN.{ℤ, _+ℤ_, _-ℤ_}
@@ -12,12 +12,12 @@ use Rattle.std.proofs.shelf.Ways.{tells}
 use Rattle.std.specs.Results.{isOk}
 use Rattle.std.specs.declared.result.Result.the-variants.{Ok}
 use Rattle.tables.specs.Rows.{inRow}
-use Rattle.tables.specs.Tables.{Domain, Table, sizeOf, isVoid, Inside, kept}
+use Rattle.tables.specs.Tables.{Table, sizeOf, isVoid, Inside, kept}
 use Rattle.tables.proofs.Keeps.{kept-beside}
 use Rattle.rules.specs.declared.ran.Ran.{Ran}
 use Rattle.rules.specs.declared.ran.Ran.the-variants.{Failed, Done}
 use Rattle.rules.specs.Rules.{Rule}
-use Rattle.rules.specs.Banks.{inSet, Names, Named, Exact, Run, filtered}
+use Rattle.rules.specs.Banks.{inSet, Names, Named, Exact, Run}
 use Rattle.rules.proofs.Voids.{size-mono, void-at, void-inside, full-at, full-from}
 use Rattle.offsets.specs.declared.rule.Offset.{Offset}
 use Rattle.offsets.specs.Offsets.{shifted, offset}
@@ -26,12 +26,12 @@ use Rattle.offsets.specs.Facts.{fit-means}
 -- ---- a run of a rule that fits
 
 pub run-by : (n : ℕ) (r : Rule) (t : Table) (a : Ran) (after : Table) → r .fit n ≡ Ok tt → Inside after t → Named a t after → (isVoid n t ≡ false → Exact n (r .filter t) after a) → Run n r t a after
-run-by n r t a after fits i named exact = record
-  { inside = i
-  ; named = named
-  ; exact = λ full. subst (λ (b : Bool). Exact n (cond b (r .filter t) t) after a) (sym (ap isOk fits)) (exact full)
-  ; void = void-inside n after t i
-  }
+run-by n r t a after fits i named exact = record {
+  inside = i;
+  named = named;
+  exact = λ full. subst (λ (b : Bool). Exact n (cond b (r .filter t) t) after a) (sym (ap isOk fits)) (exact full);
+  void = void-inside n after t i;
+}
 
 -- ---- one keep
 
@@ -64,15 +64,15 @@ both-kept true false false r s u v f g = refl
 named-so : (a b p q low-x low-y : Bool) → low-x ≡ true → low-y ≡ true → ((a && (p && low-x)) || (b && (q && low-y))) ≡ ((p && a) || (q && b))
 named-so a b p q low-x low-y e f = ap₂ (λ (i j : Bool). (a && (p && i)) || (b && (q && j))) e f ∙ ap₂ (λ (i j : Bool). i || j) (swap a p) (swap b q)
   where
-  swap : (a p : Bool) → (a && (p && true)) ≡ (p && a)
-  swap true true = refl
-  swap true false = refl
-  swap false true = refl
-  swap false false = refl
+    swap : (a p : Bool) → (a && (p && true)) ≡ (p && a)
+    swap true true = refl
+    swap true false = refl
+    swap false true = refl
+    swap false false = refl
 
 module _ (o : Offset) (n : ℕ) (fits : offset o .fit n ≡ Ok tt) (t : Table) (rx ry : List ℕ)
-  (at-x : (v : ℤ) → inRow rx v ≡ (t (o .x) v && t (o .y) (v -ℤ o .c))) (at-y : (w : ℤ) → inRow ry w ≡ (t (o .y) w && t (o .x) (w +ℤ o .c)))
-  (once : Table) (once-is : once ≡ kept (o .x) rx t) where
+    (at-x : (v : ℤ) → inRow rx v ≡ (t (o .x) v && t (o .y) (v -ℤ o .c))) (at-y : (w : ℤ) → inRow ry w ≡ (t (o .y) w && t (o .x) (w +ℤ o .c)))
+    (once : Table) (once-is : once ≡ kept (o .x) rx t) where
   once-inside : Inside once t
   once-inside = subst (λ u. Inside u t) (sym once-is) (kept-inside (o .x) rx t)
 
@@ -127,10 +127,11 @@ module _ (o : Offset) (n : ℕ) (fits : offset o .fit n ≡ Ok tt) (t : Table) (
         ∙ ap₂ (λ (i j : Bool). i || j) (ap (λ (i : Bool). eqb z (o .x) && i) ea ∙ sym first) (ap (λ (i : Bool). eqb z (o .y) && i) eb ∙ sym second)
         ∙ sym (less-chain (sizeOf (t z)) (sizeOf (once z)) (sizeOf (twice z)) (size-mono (twice z) (once z) (λ v h. kept-inside (o .y) ry once z v (subst (λ u. u z v ≡ true) twice-kept h))) (size-mono (once z) (t z) (once-inside z)))
       where
-      first : ltb (sizeOf (once z)) (sizeOf (t z)) ≡ (eqb z (o .x) && ltb (sizeOf (once (o .x))) (sizeOf (t (o .x))))
-      first = subst (λ (u : Table). ltb (sizeOf (u z)) (sizeOf (t z)) ≡ (eqb z (o .x) && ltb (sizeOf (u (o .x))) (sizeOf (t (o .x))))) (sym once-is) (smaller-at (o .x) rx t z)
-      second : ltb (sizeOf (twice z)) (sizeOf (once z)) ≡ (eqb z (o .y) && ltb (sizeOf (twice (o .y))) (sizeOf (once (o .y))))
-      second = subst (λ (u : Table). ltb (sizeOf (u z)) (sizeOf (once z)) ≡ (eqb z (o .y) && ltb (sizeOf (u (o .y))) (sizeOf (once (o .y))))) (sym twice-kept) (smaller-at (o .y) ry once z)
+        first : ltb (sizeOf (once z)) (sizeOf (t z)) ≡ (eqb z (o .x) && ltb (sizeOf (once (o .x))) (sizeOf (t (o .x))))
+        first = subst (λ (u : Table). ltb (sizeOf (u z)) (sizeOf (t z)) ≡ (eqb z (o .x) && ltb (sizeOf (u (o .x))) (sizeOf (t (o .x))))) (sym once-is) (smaller-at (o .x) rx t z)
+
+        second : ltb (sizeOf (twice z)) (sizeOf (once z)) ≡ (eqb z (o .y) && ltb (sizeOf (twice (o .y))) (sizeOf (once (o .y))))
+        second = subst (λ (u : Table). ltb (sizeOf (u z)) (sizeOf (once z)) ≡ (eqb z (o .y) && ltb (sizeOf (u (o .y))) (sizeOf (once (o .y))))) (sym twice-kept) (smaller-at (o .y) ry once z)
 
     -- both have one
     pub run-done : n ≤ 256 → eqb (sizeOf (once (o .x))) 0 ≡ false → eqb (sizeOf (twice (o .y))) 0 ≡ false → (set : List ℕ) (a b : Bool) → a ≡ ltb (sizeOf (once (o .x))) (sizeOf (t (o .x))) → b ≡ ltb (sizeOf (twice (o .y))) (sizeOf (once (o .y))) → ((z : ℕ) → inSet set z ≡ ((a && (eqb z (o .x) && ltb (o .x) 256)) || (b && (eqb z (o .y) && ltb (o .y) 256)))) → Run n (offset o) t (Done set) twice

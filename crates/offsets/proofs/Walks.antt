@@ -8,9 +8,9 @@ use native.Mathlib.Omega.{arith}
 use mir.Syntax.{w32}
 use mir.Val.{toZ, ofZ}
 use lib.IntN.{ℤ, pos, negsuc, _+ℤ_, _-ℤ_}
-use lib.Signed.{ltZ, leZ, _<ℤ_, _≤ℤ_}
+use lib.Signed.{ltZ, _≤ℤ_}
 use Rattle.std.proofs.shelf.Signed.{ints, by-ltZ}
-use Rattle.std.proofs.shelf.Tests.{cases-bool, both-ways, and-left, and-right, and-from, and-parts, or-from}
+use Rattle.std.proofs.shelf.Tests.{cases-bool, and-left, and-right, and-from, and-parts, or-from}
 use Rattle.tables.specs.Values.{isValue, equalZ}
 use Rattle.tables.specs.Rows.{inRow}
 use Rattle.tables.specs.Tables.{Domain, Table, Shaped, Least}
@@ -37,24 +37,25 @@ met p from u = ltZ u from && p u
 met-more : (p : Domain) (from w u : ℤ) → from ≤ℤ w → ((k : ℤ) → from ≤ℤ k → p k ≡ true → w ≤ℤ k) → met p (w +ℤ pos 1) u ≡ (met p from u || (p w && equalZ u w))
 met-more p from w u a f = ⊎-elim yes no (cases-bool (p u))
   where
-  yes : p u ≡ true → met p (w +ℤ pos 1) u ≡ (met p from u || (p w && equalZ u w))
-  yes h =
-      by-ltZ u from
-      (λ l. let r : ltZ u (w +ℤ pos 1) ≡ true = grind (arith, ints) in let s : ltZ u from ≡ true = grind (arith, ints) in cc)
-      (λ g.
-      let le = f u g h in
-      let s : ltZ u from ≡ false = grind (arith, ints) in
-      by-ltZ w u
-      (λ far. let r : ltZ u (w +ℤ pos 1) ≡ false = grind (arith, ints) in let ne : equalZ u w ≡ false = grind (arith, ints) in let z = and-right (p w) (equalZ u w) ne in cc)
-      (λ near.
-      let r : ltZ u (w +ℤ pos 1) ≡ true = grind (arith, ints) in
-      let eq : equalZ u w ≡ true = grind (arith, ints) in
-      let z = and-from (p w) (equalZ u w) (subst (λ k. p k ≡ true) (equal-true u w eq) h) eq in
-      cc))
-  no : p u ≡ false → met p (w +ℤ pos 1) u ≡ (met p from u || (p w && equalZ u w))
-  no h =
-      let none : (p w && equalZ u w) ≡ false = ⊎-elim (λ eq. and-left (p w) _ (subst (λ k. p k ≡ false) (equal-true u w eq) h)) (λ ne. and-right (p w) _ ne) (cases-bool (equalZ u w)) in
-      and-right (ltZ u (w +ℤ pos 1)) (p u) h ∙ sym (or-from (met p from u) _ (and-right (ltZ u from) (p u) h) none)
+    yes : p u ≡ true → met p (w +ℤ pos 1) u ≡ (met p from u || (p w && equalZ u w))
+    yes h =
+        by-ltZ u from
+        (λ l. let r : ltZ u (w +ℤ pos 1) ≡ true = grind (arith, ints) in let s : ltZ u from ≡ true = grind (arith, ints) in cc)
+        (λ g.
+        let le = f u g h in
+        let s : ltZ u from ≡ false = grind (arith, ints) in
+        by-ltZ w u
+        (λ far. let r : ltZ u (w +ℤ pos 1) ≡ false = grind (arith, ints) in let ne : equalZ u w ≡ false = grind (arith, ints) in let z = and-right (p w) (equalZ u w) ne in cc)
+        (λ near.
+        let r : ltZ u (w +ℤ pos 1) ≡ true = grind (arith, ints) in
+        let eq : equalZ u w ≡ true = grind (arith, ints) in
+        let z = and-from (p w) (equalZ u w) (subst (λ k. p k ≡ true) (equal-true u w eq) h) eq in
+        cc))
+
+    no : p u ≡ false → met p (w +ℤ pos 1) u ≡ (met p from u || (p w && equalZ u w))
+    no h =
+        let none : (p w && equalZ u w) ≡ false = ⊎-elim (λ eq. and-left (p w) _ (subst (λ k. p k ≡ false) (equal-true u w eq) h)) (λ ne. and-right (p w) _ ne) (cases-bool (equalZ u w)) in
+        and-right (ltZ u (w +ℤ pos 1)) (p u) h ∙ sym (or-from (met p from u) _ (and-right (ltZ u from) (p u) h) none)
 
 -- whether w of y has a partner in x
 abbrev pub pairs : Table → ℕ → ℕ → ℤ → Domain
@@ -100,15 +101,15 @@ module _ (n : ℕ) (t : Table) (shaped : Shaped n t) (x y : ℕ) (c : ℤ) where
   pub walk-none : (rx ry : List ℕ) → ((v : ℤ) → inRow rx v ≡ false) → ((v : ℤ) → inRow ry v ≡ false) → Walked t x y c (negsuc 511) rx ry
   walk-none rx ry a b = (omega (arith, ints), (λ v. a v ∙ sym (none (v -ℤ c))), (λ w. b w ∙ sym (none w)))
     where
-    none : (u : ℤ) → met (pairs t x y c) (negsuc 511) u ≡ false
-    none u = ⊎-elim (λ yes. let l = low u yes in let s : ltZ u (negsuc 511) ≡ false = grind (arith, ints) in and-left (ltZ u (negsuc 511)) _ s) (λ no. and-right (ltZ u (negsuc 511)) _ (and-left (t y u) _ no)) (cases-bool (t y u))
+      none : (u : ℤ) → met (pairs t x y c) (negsuc 511) u ≡ false
+      none u = ⊎-elim (λ yes. let l = low u yes in let s : ltZ u (negsuc 511) ≡ false = grind (arith, ints) in and-left (ltZ u (negsuc 511)) _ s) (λ no. and-right (ltZ u (negsuc 511)) _ (and-left (t y u) _ no)) (cases-bool (t y u))
 
   -- after the last turn
   pub walk-all : (from : ℤ) (rx ry : List ℕ) → Walked t x y c from rx ry → ((u : ℤ) → from ≤ℤ u → t y u ≡ false) → ((v : ℤ) → inRow rx v ≡ (t x v && t y (v -ℤ c))) × ((w : ℤ) → inRow ry w ≡ (t y w && t x (w +ℤ c)))
   walk-all from rx ry inv none = ((λ v. inv .1 v ∙ all (v -ℤ c) ∙ ap (λ u. t y (v -ℤ c) && t x u) (back v c) ∙ and-swap (t y (v -ℤ c)) (t x v)), (λ w. inv .2 w ∙ all w))
     where
-    all : (u : ℤ) → met (pairs t x y c) from u ≡ pairs t x y c u
-    all u = by-ltZ u from (λ l. let s : ltZ u from ≡ true = grind (arith, ints) in ap (λ (b : Bool). b && pairs t x y c u) s) (λ g. let z = and-left (t y u) (t x (u +ℤ c)) (none u g) in and-right (ltZ u from) (pairs t x y c u) z ∙ sym z)
+      all : (u : ℤ) → met (pairs t x y c) from u ≡ pairs t x y c u
+      all u = by-ltZ u from (λ l. let s : ltZ u from ≡ true = grind (arith, ints) in ap (λ (b : Bool). b && pairs t x y c u) s) (λ g. let z = and-left (t y u) (t x (u +ℤ c)) (none u g) in and-right (ltZ u from) (pairs t x y c u) z ∙ sym z)
 
   -- one turn, to the next value w of y
   module _ (from w : ℤ) (next : Least (t y) from w) (rx ry : List ℕ) (inv : Walked t x y c from rx ry) (reach : inReach c ≡ true) where
@@ -140,31 +141,36 @@ module _ (n : ℕ) (t : Table) (shaped : Shaped n t) (x y : ℕ) (c : ℤ) where
     pub turn-hit : t x (held (held w +ℤ held c)) ≡ true → (new-x new-y : List ℕ) → ((v : ℤ) → inRow new-x v ≡ (inRow rx v || (isValue (held (held w +ℤ held c)) && equalZ v (held (held w +ℤ held c))))) → ((v : ℤ) → inRow new-y v ≡ (inRow ry v || (isValue (held w) && equalZ v (held w)))) → Walked t x y c (held (held w +ℤ pos 1)) new-x new-y
     turn-hit has new-x new-y ex ey = subst (λ f. Walked t x y c f new-x new-y) (sym next-same) (end, at-x, at-y)
       where
-      there : t x (w +ℤ c) ≡ true
-      there = subst (λ z. t x z ≡ true) sum-same has
-      both : pairs t x y c w ≡ true
-      both = and-from (t y w) (t x (w +ℤ c)) (next .member) there
-      at-x : (v : ℤ) → inRow new-x v ≡ met (pairs t x y c) (w +ℤ pos 1) (v -ℤ c)
-      at-x v =
-          ex v
-          ∙ ap₂ (λ (a : Bool) (z : ℤ). a || (isValue z && equalZ v z)) (inv .1 v) sum-same
-          ∙ ap (λ (b : Bool). met (pairs t x y c) from (v -ℤ c) || b) (ap₂ (λ (a b : Bool). a && b) (shaped x (w +ℤ c) there .1 ∙ sym both) (same-value v w c))
-          ∙ sym (step (v -ℤ c))
-      at-y : (v : ℤ) → inRow new-y v ≡ met (pairs t x y c) (w +ℤ pos 1) v
-      at-y v =
-          ey v
-          ∙ ap₂ (λ (a : Bool) (z : ℤ). a || (isValue z && equalZ v z)) (inv .2 v) w-same
-          ∙ ap (λ (b : Bool). met (pairs t x y c) from v || (b && equalZ v w)) (shaped y w (next .member) .1 ∙ sym both)
-          ∙ sym (step v)
+        there : t x (w +ℤ c) ≡ true
+        there = subst (λ z. t x z ≡ true) sum-same has
+
+        both : pairs t x y c w ≡ true
+        both = and-from (t y w) (t x (w +ℤ c)) (next .member) there
+
+        at-x : (v : ℤ) → inRow new-x v ≡ met (pairs t x y c) (w +ℤ pos 1) (v -ℤ c)
+        at-x v =
+            ex v
+            ∙ ap₂ (λ (a : Bool) (z : ℤ). a || (isValue z && equalZ v z)) (inv .1 v) sum-same
+            ∙ ap (λ (b : Bool). met (pairs t x y c) from (v -ℤ c) || b) (ap₂ (λ (a b : Bool). a && b) (shaped x (w +ℤ c) there .1 ∙ sym both) (same-value v w c))
+            ∙ sym (step (v -ℤ c))
+
+        at-y : (v : ℤ) → inRow new-y v ≡ met (pairs t x y c) (w +ℤ pos 1) v
+        at-y v =
+            ey v
+            ∙ ap₂ (λ (a : Bool) (z : ℤ). a || (isValue z && equalZ v z)) (inv .2 v) w-same
+            ∙ ap (λ (b : Bool). met (pairs t x y c) from v || (b && equalZ v w)) (shaped y w (next .member) .1 ∙ sym both)
+            ∙ sym (step v)
 
     -- w has none
     pub turn-miss : t x (held (held w +ℤ held c)) ≡ false → (new-x new-y : List ℕ) → new-x ≡ rx → new-y ≡ ry → Walked t x y c (held (held w +ℤ pos 1)) new-x new-y
     turn-miss has new-x new-y ex ey = subst (λ f. Walked t x y c f new-x new-y) (sym next-same) (end, (λ v. ap (λ r. inRow r v) ex ∙ inv .1 v ∙ same (v -ℤ c)), (λ v. ap (λ r. inRow r v) ey ∙ inv .2 v ∙ same v))
       where
-      none : (u : ℤ) → (pairs t x y c w && equalZ u w) ≡ false
-      none u = and-left (pairs t x y c w) _ (and-right (t y w) _ (subst (λ z. t x z ≡ false) sum-same has))
-      or-false : (b : Bool) → (b || false) ≡ b
-      or-false true = refl
-      or-false false = refl
-      same : (u : ℤ) → met (pairs t x y c) from u ≡ met (pairs t x y c) (w +ℤ pos 1) u
-      same u = sym (step u ∙ ap (λ (b : Bool). met (pairs t x y c) from u || b) (none u) ∙ or-false (met (pairs t x y c) from u))
+        none : (u : ℤ) → (pairs t x y c w && equalZ u w) ≡ false
+        none u = and-left (pairs t x y c w) _ (and-right (t y w) _ (subst (λ z. t x z ≡ false) sum-same has))
+
+        or-false : (b : Bool) → (b || false) ≡ b
+        or-false true = refl
+        or-false false = refl
+
+        same : (u : ℤ) → met (pairs t x y c) from u ≡ met (pairs t x y c) (w +ℤ pos 1) u
+        same u = sym (step u ∙ ap (λ (b : Bool). met (pairs t x y c) from u || b) (none u) ∙ or-false (met (pairs t x y c) from u))

@@ -2,7 +2,7 @@
 use mathlib.Core.Path.{_≡_, refl, sym, ap, ap₂, subst, fun-ext, _∙_}
 use mathlib.Core.Bool.{Bool, true, false, cond, not, _&&_, _||_}
 use mathlib.Core.List.{List, [], _∷_}
-use mathlib.Core.Logic.{_⊎_, inl, inr, ⊎-elim}
+use mathlib.Core.Logic.{inl, inr, ⊎-elim}
 use Prim.Native.Nat.{ℕ, zero, suc, _<_}
 use native.Mathlib.Omega.{arith}
 use lib.Dec.{eqb, ltb, leb}
@@ -10,16 +10,15 @@ use lib.IntN.{ℤ, _+ℤ_, _-ℤ_}
 use lib.ListN.{length, getD}
 use denote.Ref.{now}
 use Rattle.std.proofs.shelf.Signed.{ints}
-use Rattle.std.proofs.shelf.Tests.{both-ways, cases-eq, cases-bool, ltb-true, eqb-true, eq-eqb, ne-eqb, and-parts, and-from, or-cases, or-parts, or-left, or-right, not-from-true, not-from-false}
+use Rattle.std.proofs.shelf.Tests.{both-ways, ltb-true, eqb-true, eq-eqb, and-parts, and-from, or-parts, or-left, or-right}
 use Rattle.std.specs.Results.{isOk}
 use Rattle.std.specs.declared.result.Result.{Result}
 use Rattle.std.specs.declared.result.Result.the-variants.{Ok, Err}
-use Rattle.tables.specs.Values.{isValue, equalZ}
-use Rattle.tables.specs.Tables.{Domain, Table, Shaped, sizeOf, isVoid, Inside, Within}
+use Rattle.tables.specs.Tables.{Domain, Table, Inside}
 use Rattle.tables.proofs.Places.{equal-true, equal-same}
 use Rattle.rules.specs.declared.fault.RuleFault.{RuleFault}
-use Rattle.rules.specs.declared.fault.RuleFault.the-variants.{Count, Variable, Value}
-use Rattle.rules.specs.Rules.{Rule, Lawful, Assignment, at, In, Same, Single, Agree}
+use Rattle.rules.specs.declared.fault.RuleFault.the-variants.{Variable, Value}
+use Rattle.rules.specs.Rules.{Rule, Lawful, at}
 use Rattle.rules.specs.Banks.{nobody, called}
 use Rattle.rules.proofs.Voids.{void-inside, within-inside, in-full, size-one}
 use Rattle.offsets.specs.declared.bank.Offsets.{Offsets}
@@ -83,25 +82,29 @@ fit-means o n e =
     (ltb-true (o .x) n (low .0), ltb-true (o .y) n (low .1), parts .1)
 
 pub offset-lawful : (o : Offset) (n : ℕ) → o .x < n → o .y < n → Lawful n (offset o)
-offset-lawful o n lx ly = record
-  { shrinks = λ d s. inr (inside d)
-  ; monotone = λ d e s u w. ⊎-elim (λ void. inl (void-inside n (shifted (o .x) (o .y) (o .c) d) d (inside d) void)) (λ i. inr (shifted-mono (o .x) (o .y) (o .c) d e i)) w
-  ; sound = λ d s a h obeys. let e = equal-true (at a (o .x)) (at a (o .y) +ℤ o .c) obeys in (h .0, λ z l. shifted-from (o .x) (o .y) (o .c) d z (at a z) (h .1 z l)
-    (λ q. subst (λ v. d (o .y) v ≡ true) (sym (minus-plus (at a z) (at a (o .y)) (o .c) (ap (at a) q ∙ e))) (h .1 (o .y) ly))
-    (λ q. subst (λ v. d (o .x) v ≡ true) (e ∙ ap (λ i. at a i +ℤ o .c) (sym q)) (h .1 (o .x) lx)))
-  ; decides = λ d s single same a h.
-    let i = within-inside n d (shifted (o .x) (o .y) (o .c) d) (same .1) (in-full n d a s h) in
-    let there = shifted-x (o .x) (o .y) (o .c) d (at a (o .x)) (i (o .x) (at a (o .x)) (h .1 (o .x) lx)) in
-    let here = h .1 (o .y) ly in
-    equal-same (at a (o .x)) (at a (o .y) +ℤ o .c) (plus-minus (at a (o .x)) (at a (o .y)) (o .c) (size-one (d (o .y)) (single (o .y) ly) (at a (o .x) -ℤ o .c) (at a (o .y)) (s (o .y) _ there .1) (s (o .y) _ here .1) there here))
-  ; outside = λ d s. inr (λ z h. let no = or-parts (eqb z (o .x)) (eqb z (o .y)) h in fun-ext (λ v. unasked (d z v) (eqb z (o .x)) (eqb z (o .y)) _ _ (no .0) (no .1)))
-  ; local = λ d e s u f g agree. inr (λ z h. local d e z (agree z h) (agree (o .x) (or-left _ _ (eq-eqb (o .x) (o .x) refl))) (agree (o .y) (or-right (eqb (o .y) (o .x)) _ (eq-eqb (o .y) (o .y) refl))))
-  }
+offset-lawful o n lx ly = record {
+  shrinks = λ d s. inr (inside d);
+  monotone = λ d e s u w. ⊎-elim (λ void. inl (void-inside n (shifted (o .x) (o .y) (o .c) d) d (inside d) void)) (λ i. inr (shifted-mono (o .x) (o .y) (o .c) d e i)) w;
+  sound = λ d s a h obeys. let e = equal-true (at a (o .x)) (at a (o .y) +ℤ o .c) obeys in (
+    h .0,
+    λ z l. shifted-from (o .x) (o .y) (o .c) d z (at a z) (h .1 z l)
+        (λ q. subst (λ v. d (o .y) v ≡ true) (sym (minus-plus (at a z) (at a (o .y)) (o .c) (ap (at a) q ∙ e))) (h .1 (o .y) ly))
+        (λ q. subst (λ v. d (o .x) v ≡ true) (e ∙ ap (λ i. at a i +ℤ o .c) (sym q)) (h .1 (o .x) lx)),
+  );
+  decides = λ d s single same a h.
+      let i = within-inside n d (shifted (o .x) (o .y) (o .c) d) (same .1) (in-full n d a s h) in
+      let there = shifted-x (o .x) (o .y) (o .c) d (at a (o .x)) (i (o .x) (at a (o .x)) (h .1 (o .x) lx)) in
+      let here = h .1 (o .y) ly in
+      equal-same (at a (o .x)) (at a (o .y) +ℤ o .c) (plus-minus (at a (o .x)) (at a (o .y)) (o .c) (size-one (d (o .y)) (single (o .y) ly) (at a (o .x) -ℤ o .c) (at a (o .y)) (s (o .y) _ there .1) (s (o .y) _ here .1) there here));
+  outside = λ d s. inr (λ z h. let no = or-parts (eqb z (o .x)) (eqb z (o .y)) h in fun-ext (λ v. unasked (d z v) (eqb z (o .x)) (eqb z (o .y)) _ _ (no .0) (no .1)));
+  local = λ d e s u f g agree. inr (λ z h. local d e z (agree z h) (agree (o .x) (or-left _ _ (eq-eqb (o .x) (o .x) refl))) (agree (o .y) (or-right (eqb (o .y) (o .x)) _ (eq-eqb (o .y) (o .y) refl))));
+}
   where
-  inside : (d : Table) → Inside (shifted (o .x) (o .y) (o .c) d) d
-  inside d z v h = shifted-here (o .x) (o .y) (o .c) d z v h
-  local : (d e : Table) (z : ℕ) → d z ≡ e z → d (o .x) ≡ e (o .x) → d (o .y) ≡ e (o .y) → shifted (o .x) (o .y) (o .c) d z ≡ shifted (o .x) (o .y) (o .c) e z
-  local d e z p q r = fun-ext (λ v. let a = ap (λ (f : Domain). f v) p in let b = ap (λ (f : Domain). f (v +ℤ o .c)) q in let c = ap (λ (f : Domain). f (v -ℤ o .c)) r in cc)
+    inside : (d : Table) → Inside (shifted (o .x) (o .y) (o .c) d) d
+    inside d z v h = shifted-here (o .x) (o .y) (o .c) d z v h
+
+    local : (d e : Table) (z : ℕ) → d z ≡ e z → d (o .x) ≡ e (o .x) → d (o .y) ≡ e (o .y) → shifted (o .x) (o .y) (o .c) d z ≡ shifted (o .x) (o .y) (o .c) e z
+    local d e z p q r = fun-ext (λ v. let a = ap (λ (f : Domain). f v) p in let b = ap (λ (f : Domain). f (v +ℤ o .c)) q in let c = ap (λ (f : Domain). f (v -ℤ o .c)) r in cc)
 
 -- ---- the rules of a list
 

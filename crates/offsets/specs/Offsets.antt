@@ -7,11 +7,9 @@ use lib.IntN.{ℤ, pos, negsuc, _+ℤ_, _-ℤ_}
 use lib.Signed.{leZ}
 use Rattle.std.specs.declared.option.Option.{Option}
 use Rattle.std.specs.declared.option.Option.the-variants.{Some, None}
-use Rattle.std.specs.declared.result.Result.{Result}
 use Rattle.std.specs.declared.result.Result.the-variants.{Ok, Err}
 use Rattle.tables.specs.Values.{equalZ}
 use Rattle.tables.specs.Tables.{Table}
-use Rattle.rules.specs.declared.fault.RuleFault.{RuleFault}
 use Rattle.rules.specs.declared.fault.RuleFault.the-variants.{Variable, Value}
 use Rattle.rules.specs.Rules.{Rule, at}
 use Rattle.rules.specs.Banks.{nobody}
@@ -27,12 +25,12 @@ inReach c = leZ (negsuc 1022) c && leZ c (pos 1023)
 
 -- the rule x = y + c
 abbrev pub offset : Offset → Rule
-offset o = record
-  { watches = λ z. eqb z (o .x) || eqb z (o .y)
-  ; filter = shifted (o .x) (o .y) (o .c)
-  ; obeyed = λ a. equalZ (at a (o .x)) (at a (o .y) +ℤ o .c)
-  ; fit = λ n. cond (ltb (o .x) n && ltb (o .y) n) (cond (inReach (o .c)) (Ok tt) (Err Value)) (Err Variable)
-  }
+offset o = record {
+  watches = λ z. eqb z (o .x) || eqb z (o .y);
+  filter = shifted (o .x) (o .y) (o .c);
+  obeyed = λ a. equalZ (at a (o .x)) (at a (o .y) +ℤ o .c);
+  fit = λ n. cond (ltb (o .x) n && ltb (o .y) n) (cond (inReach (o .c)) (Ok tt) (Err Value)) (Err Variable);
+}
 
 -- the rules of a list
 abbrev pub offsets : List Offset → List Rule

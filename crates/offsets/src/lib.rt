@@ -4,18 +4,18 @@ ghost use mathlib.Core.Bool.{true, false, _&&_, _||_};
 ghost use Prim.Native.Nat.{ℕ};
 ghost use lib.Dec.{eqb, ltb};
 ghost use lib.IntN.{ℤ, _+ℤ_, _-ℤ_};
-ghost use lib.ListN.{length};
+ghost use lib.ListN.{length, getD};
 ghost use Rattle.std.specs.Results.{isOk};
 ghost use Rattle.std.specs.declared.result.Result.the-variants.{Ok};
 ghost use Rattle.tables.specs.Rows.{inRow};
-ghost use Rattle.rules.specs.Banks.{inSet, nothing, called, Run};
+ghost use Rattle.rules.specs.Banks.{inSet, nothing, nobody, called, Run};
 ghost use Rattle.rules.specs.declared.ran.Ran.the-variants.{Done};
 ghost use Rattle.offsets.specs.Offsets.{inReach, offset, ruleOf};
 ghost use Rattle.offsets.specs.Meaning.{rulesOf};
 ghost use Rattle.offsets.specs.Facts.{offsets-lawful};
 
 pub mod bank;
-pub mod both;
+mod both;
 pub mod rule;
 
 pub use bank::Offsets;
@@ -27,6 +27,7 @@ use rules::RuleFault;
 use rules::sets;
 use rules::sets::Set;
 use tables::Domains;
+use tables::Row;
 use tables::rows;
 
 impl<'a> Offsets<'a> {
@@ -44,15 +45,26 @@ impl<'a> Offsets<'a> {
         self.rules.len()
     }
 
+    // The rule at a place of the list.
+    fn nth(&self, rule: usize) -> Option<Offset>
+        ensures { λ r. ⌜ getD (rulesOf (now (self .entry))) rule nobody ≡ ruleOf r ⌝ }
+    {
+        let rules = self.rules;
+        if rule < rules.len() {
+            Some(rules[rule])
+        } else {
+            None
+        }
+    }
+
     // The rule of a number: none past the last, and none in a list of more than 256.
     fn rule_at(&self, rule: usize) -> Option<Offset>
         ensures { λ r. ⌜ called (rulesOf (now (self .entry))) rule ≡ ruleOf r ⌝ }
     {
-        let rules = self.rules;
-        if rules.len() > 256 || rule >= rules.len() {
+        if self.count() > 256 {
             return None;
         }
-        Some(rules[rule])
+        self.nth(rule)
     }
 }
 
@@ -106,19 +118,19 @@ fn smaller(o: Offset, at_x: bool, at_y: bool) -> Set
 }
 
 // Runs a rule that fits, by the values that have a partner: x keeps those that lie c above one of y, and y those that lie c below one of x.
-fn narrow<S: Domains>(store: &mut S, o: Offset, both: Both) -> Ran
+fn narrow<S: Domains>(store: &mut S, o: Offset, row_x: Row, row_y: Row) -> Ran
     requires fits { ⌜ offset o .fit (S·Domains .frame (now store) .vars) ≡ Ok tt ⌝ }
-    requires x { ⌜ ((v : ℤ) → inRow (both .x) v ≡ (S·Domains .table (now store) (o .x) v && S·Domains .table (now store) (o .y) (v -ℤ o .c))) ⌝ }
-    requires y { ⌜ ((w : ℤ) → inRow (both .y) w ≡ (S·Domains .table (now store) (o .y) w && S·Domains .table (now store) (o .x) (w +ℤ o .c))) ⌝ }
+    requires x { ⌜ ((v : ℤ) → inRow «row_x» v ≡ (S·Domains .table (now store) (o .x) v && S·Domains .table (now store) (o .y) (v -ℤ o .c))) ⌝ }
+    requires y { ⌜ ((w : ℤ) → inRow «row_y» w ≡ (S·Domains .table (now store) (o .y) w && S·Domains .table (now store) (o .x) (w +ℤ o .c))) ⌝ }
     ensures run { λ r. ⌜ Run (S·Domains .frame (now (store .entry)) .vars) (offset o) (S·Domains .table (now (store .entry))) r (S·Domains .table (now (store .exit))) ⌝ }
     ensures same_saved { λ _. ⌜ S·Domains .saved (now (store .exit)) ≡ S·Domains .saved (now (store .entry)) ⌝ }
     ensures same_frame { λ _. ⌜ S·Domains .frame (now (store .exit)) ≡ S·Domains .frame (now (store .entry)) ⌝ }
 {
-    let at_x = store.keep(o.x, both.x);
+    let at_x = store.keep(o.x, row_x);
     if at_x.empty {
         return Ran::Failed;
     }
-    let at_y = store.keep(o.y, both.y);
+    let at_y = store.keep(o.y, row_y);
     if at_y.empty {
         return Ran::Failed;
     }
@@ -135,7 +147,7 @@ fn link<S: Domains>(store: &mut S, o: Offset) -> Ran
     match fits(o, store.variables()) {
         Ok(()) => {
             let both = matched(store, o);
-            narrow(store, o, both)
+            narrow(store, o, both.x, both.y)
         }
         Err(_) => Ran::Done(sets::none()),
     }
