@@ -96,7 +96,7 @@ offset-lawful o n lx ly = record {
       let there = shifted-x (o .x) (o .y) (o .c) d (at a (o .x)) (i (o .x) (at a (o .x)) (h .1 (o .x) lx)) in
       let here = h .1 (o .y) ly in
       equal-same (at a (o .x)) (at a (o .y) +ℤ o .c) (plus-minus (at a (o .x)) (at a (o .y)) (o .c) (size-one (d (o .y)) (single (o .y) ly) (at a (o .x) -ℤ o .c) (at a (o .y)) (s (o .y) _ there .1) (s (o .y) _ here .1) there here));
-  outside = λ d s. inr (λ z h. let no = or-parts (eqb z (o .x)) (eqb z (o .y)) h in fun-ext (λ v. unasked (d z v) (eqb z (o .x)) (eqb z (o .y)) _ _ (no .0) (no .1)));
+  outside = λ d s z h. let no = or-parts (eqb z (o .x)) (eqb z (o .y)) h in fun-ext (λ v. unasked (d z v) (eqb z (o .x)) (eqb z (o .y)) _ _ (no .0) (no .1));
   local = λ d e s u f g agree. inr (λ z h. local d e z (agree z h) (agree (o .x) (or-left _ _ (eq-eqb (o .x) (o .x) refl))) (agree (o .y) (or-right (eqb (o .y) (o .x)) _ (eq-eqb (o .y) (o .y) refl))));
 }
   where

@@ -29,3 +29,8 @@ ofPlain (Err f) = answer.Refused f
 abbrev pub verdict : Option SessionFault → Result (Unit {0}) SessionFault
 verdict None = Ok tt
 verdict (Some f) = Err f
+
+-- a refusal, or what comes after it
+abbrev pub orRest : Result (Unit {0}) SessionFault → Option SessionFault → Option SessionFault
+orRest (Ok u) rest = rest
+orRest (Err f) rest = Some f

@@ -15,10 +15,10 @@ use Rattle.sessions.specs.declared.fault.SessionFault.{SessionFault}
 use Rattle.sessions.specs.declared.call.Call.{Call}
 use Rattle.sessions.specs.declared.answer.Answer.{Answer}
 use Rattle.sessions.specs.Agendas.{upto}
-use Rattle.sessions.specs.Worlds.{World}
+use Rattle.sessions.specs.Worlds.{World, refusedStart}
 use Rattle.sessions.specs.Steps.{Step}
 use Rattle.sessions.specs.Histories.{History, Lived}
-use Rattle.sessions.specs.Promises.{Kept}
+use Rattle.sessions.specs.Promises.{Kept, Stuck, Throughout}
 use Rattle.agenda.specs.Meaning.{waits}
 use Rattle.session.specs.declared.state.Session.{Session}
 
@@ -38,3 +38,8 @@ Keeps f rules c a w w′ = (start : Table) (base : List Table) (h : History) →
 abbrev pub beginning : Option SessionFault → List Rule → Table → List Table → World
 beginning None rules t saved = record { standing = standing.Stirred; agenda = upto (length rules); saves = 0; table = t; saved = saved }
 beginning (Some f) rules t saved = record { standing = standing.Failed; agenda = []; saves = 0; table = t; saved = saved }
+
+-- what is promised of a beginning: accepted, its history lives and keeps the promises; refused, nothing changes it any more
+pub record Begins (f : Frame) (rules : List Rule) (t : Table) (saved : List Table) (w : World) : Type 0 where
+  pub accepted : refusedStart (f .vars) rules t ≡ None → Throughout (f .vars) (f .most) rules t saved [] w
+  pub refused : (e : SessionFault) → refusedStart (f .vars) rules t ≡ Some e → Stuck (f .vars) (f .most) rules w
