@@ -1,2 +1,3 @@
 pub mod Sizes
 pub mod Promised
+pub mod Waking

@@ -16,7 +16,7 @@ use Rattle.sessions.specs.declared.call.Call.{Call}
 use Rattle.sessions.specs.declared.answer.Answer.{Answer}
 use Rattle.sessions.specs.Agendas.{upto}
 use Rattle.sessions.specs.Worlds.{World, refusedStart}
-use Rattle.sessions.specs.Steps.{Step}
+use Rattle.sessions.specs.Steps.{Step, woke, brokenBy}
 use Rattle.sessions.specs.Histories.{History, Lived}
 use Rattle.sessions.specs.Promises.{Kept, Stuck, Throughout}
 use Rattle.agenda.specs.Meaning.{waits}
@@ -38,6 +38,10 @@ Keeps f rules c a w w′ = (start : Table) (base : List Table) (h : History) →
 abbrev pub beginning : Option SessionFault → List Rule → Table → List Table → World
 beginning None rules t saved = record { standing = standing.Stirred; agenda = upto (length rules); saves = 0; table = t; saved = saved }
 beginning (Some f) rules t saved = record { standing = standing.Failed; agenda = []; saves = 0; table = t; saved = saved }
+
+-- the world after an order that left the table t, by whether its variable x has a value left
+abbrev pub afterOrder : List Rule → ℕ → Table → World → World
+afterOrder rules x t w = cond (eqb (sizeOf (t x)) 0) (brokenBy t w) (record { standing = standing.Stirred; agenda = woke rules (w .table) t (w .agenda); saves = w .saves; table = t; saved = w .saved })
 
 -- what is promised of a beginning: accepted, its history lives and keeps the promises; refused, nothing changes it any more
 pub record Begins (f : Frame) (rules : List Rule) (t : Table) (saved : List Table) (w : World) : Type 0 where

@@ -1,9 +1,9 @@
 // A session: orders are given, rules are run until none removes more, and tables are saved and taken back.
 ghost use mathlib.Core.Path.{_≡_};
-ghost use mathlib.Core.Bool.{true, false, cond};
+ghost use mathlib.Core.Bool.{true, false, cond, _&&_};
 ghost use mathlib.Core.List.{List, []};
 ghost use Prim.Native.Nat.{ℕ, _+_, _≤_, _<_};
-ghost use lib.Dec.{eqb};
+ghost use lib.Dec.{eqb, ltb};
 ghost use lib.ListN.{length};
 ghost use Rattle.std.specs.Results.{Cases};
 ghost use Rattle.std.specs.declared.option.Option.{Option};
@@ -15,8 +15,12 @@ ghost use Rattle.sessions.specs.Worlds.{unfit, refusedStart};
 ghost use Rattle.sessions.specs.Steps.{values, settled, failed, Settles};
 ghost use Rattle.sessions.specs.Promises.{Stuck};
 ghost use Rattle.agenda.specs.Meaning.{waits};
+ghost use Rattle.session.specs.declared.outcome.Ordered.the-variants.{Done, Emptied};
+ghost use Rattle.sessions.specs.declared.standing.Standing.the-variants.{Failed};
+ghost use Rattle.sessions.specs.Agendas.{joined};
+ghost use Rattle.rules.specs.Banks.{inSet, woken};
 ghost use Rattle.session.specs.Answers.{verdict, orRest};
-ghost use Rattle.session.specs.Meaning.{world, beginning, Begins};
+ghost use Rattle.session.specs.Meaning.{world, beginning, afterOrder, Begins};
 
 pub mod outcome;
 pub mod state;
@@ -26,11 +30,14 @@ pub use outcome::Ordered;
 pub use outcome::Propagated;
 use rules::Bank;
 use rules::Ran;
+use rules::sets;
+use rules::sets::Set;
 use sessions::SessionFault;
 use sessions::Standing;
 pub use state::Session;
 use tables::Domains;
 use tables::Levels;
+use tables::Row;
 
 // Whether one of the first n variables has no value.
 fn has_empty<S: Domains>(store: &S, n: usize) -> bool
@@ -113,5 +120,56 @@ impl Session {
         ensures promises { λ r. ⌜ Begins (S·Domains .frame (now (store .entry))) (B·Bank .rules (now (bank .entry))) (S·Domains .table (now (store .entry))) (S·Domains .saved (now (store .entry))) (world r (S·Domains .table (now (store .entry))) (S·Domains .saved (now (store .entry)))) ⌝ }
     {
         Session::opened(store, bank)
+    }
+
+    // The session stands failed, and no rule waits.
+    fn fail(&mut self)
+        ensures { λ _. ⌜ (now (self .exit) .standing ≡ Failed) × (waits (now (self .exit) .agenda) ≡ []) × (now (self .exit) .saves ≡ now (self .entry) .saves) ⌝ }
+    {
+        self.agenda.clear();
+        self.standing = Standing::Failed;
+    }
+
+    // The rules that watch one of a set of variables and do not wait join the agenda.
+    fn wake<B: Bank>(&mut self, bank: &B, changed: Set)
+        ensures agenda { λ _. ⌜ waits (now (self .exit) .agenda) ≡ joined (waits (now (self .entry) .agenda)) (woken (B·Bank .rules (now (bank .entry))) (inSet changed)) ⌝ }
+        ensures same { λ _. ⌜ (now (self .exit) .standing ≡ now (self .entry) .standing) × (now (self .exit) .saves ≡ now (self .entry) .saves) ⌝ }
+    {
+        let rules = bank.woken(changed);
+        self.agenda.join(rules);
+    }
+
+    // The same for one variable, if it got smaller.
+    fn wake_at<B: Bank>(&mut self, bank: &B, x: usize, smaller: bool)
+        ensures agenda { λ _. ⌜ waits (now (self .exit) .agenda) ≡ joined (waits (now (self .entry) .agenda)) (woken (B·Bank .rules (now (bank .entry))) (λ z. smaller && (eqb z x && ltb x 256))) ⌝ }
+        ensures same { λ _. ⌜ (now (self .exit) .standing ≡ now (self .entry) .standing) × (now (self .exit) .saves ≡ now (self .entry) .saves) ⌝ }
+    {
+        if smaller {
+            let mut changed = sets::none();
+            sets::insert(&mut changed, x);
+            self.wake(bank, changed);
+        }
+    }
+
+    // Performs an order by which variable x keeps the values of a row.
+    fn perform<S: Levels, B: Bank>(
+        &mut self,
+        store: &mut S,
+        bank: &B,
+        x: usize,
+        row: Row,
+    ) -> Ordered
+        ensures world { λ _. ⌜ world (now (self .exit)) (S·Domains .table (now (store .exit))) (S·Domains .saved (now (store .exit))) ≡ afterOrder (B·Bank .rules (now (bank .entry))) x (kept x row (S·Domains .table (now (store .entry)))) (world (now (self .entry)) (S·Domains .table (now (store .entry))) (S·Domains .saved (now (store .entry)))) ⌝ }
+        ensures answer { λ r. ⌜ r ≡ cond (eqb (sizeOf (kept x row (S·Domains .table (now (store .entry))) x)) 0) Emptied Done ⌝ }
+        ensures same_frame { λ _. ⌜ S·Domains .frame (now (store .exit)) ≡ S·Domains .frame (now (store .entry)) ⌝ }
+    {
+        let kept = store.keep(x, row);
+        if kept.empty {
+            self.fail();
+            return Ordered::Emptied;
+        }
+        self.wake_at(bank, x, kept.smaller);
+        self.standing = Standing::Stirred;
+        Ordered::Done
     }
 }
