@@ -1,3 +1,4 @@
 pub mod Sizes
 pub mod Promised
 pub mod Waking
+pub mod Stepping

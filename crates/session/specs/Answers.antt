@@ -6,6 +6,10 @@ use Rattle.std.specs.declared.result.Result.the-variants.{Ok, Err}
 use Rattle.sessions.specs.declared.fault.SessionFault.{SessionFault}
 use Rattle.sessions.specs.declared.answer.Answer.{Answer}
 use Rattle.sessions.specs.declared.answer.Answer.the-variants as answer
+use Prim.Native.Nat.{ℕ}
+use Rattle.sessions.specs.Steps.{Outcome, settled, failed}
+use Rattle.session.specs.declared.ended.Ended.{Ended}
+use Rattle.session.specs.declared.ended.Ended.the-variants as ended
 use Rattle.session.specs.declared.outcome.Ordered.{Ordered}
 use Rattle.session.specs.declared.outcome.Ordered.the-variants as ordered
 use Rattle.session.specs.declared.outcome.Propagated.{Propagated}
@@ -24,6 +28,15 @@ ofSettle (Err f) = answer.Refused f
 abbrev pub ofPlain : Result (Unit {0}) SessionFault → Answer
 ofPlain (Ok u) = answer.Done
 ofPlain (Err f) = answer.Refused f
+
+-- how many runs were made, and how they ended
+abbrev pub runsOf : Ended → ℕ
+runsOf (ended.Settled k) = k
+runsOf (ended.Failed i k) = k
+
+abbrev pub endOf : Ended → Outcome
+endOf (ended.Settled k) = settled
+endOf (ended.Failed i k) = failed i
 
 -- what a check answers
 abbrev pub verdict : Option SessionFault → Result (Unit {0}) SessionFault

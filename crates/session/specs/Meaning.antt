@@ -1,21 +1,22 @@
 -- What a session means, with the store that it works on.
 use mathlib.Core.Path.{_≡_}
-use mathlib.Core.Bool.{Bool, cond}
+use mathlib.Core.Bool.{Bool, cond, not}
 use mathlib.Core.List.{List, [], _∷_}
 use Prim.Native.Nat.{ℕ}
-use lib.Dec.{eqb}
+use lib.Dec.{eqb, ltb}
 use lib.ListN.{length}
 use Rattle.std.specs.declared.option.Option.{Option}
 use Rattle.std.specs.declared.option.Option.the-variants.{Some, None}
-use Rattle.tables.specs.Tables.{Table, sizeOf}
+use Rattle.tables.specs.Tables.{Table, sizeOf, kept}
 use Rattle.tables.specs.Stores.{Frame}
 use Rattle.rules.specs.Rules.{Rule}
 use Rattle.sessions.specs.declared.standing.Standing.the-variants as standing
 use Rattle.sessions.specs.declared.fault.SessionFault.{SessionFault}
+use Rattle.sessions.specs.declared.fault.SessionFault.the-variants as fault
 use Rattle.sessions.specs.declared.call.Call.{Call}
 use Rattle.sessions.specs.declared.answer.Answer.{Answer}
 use Rattle.sessions.specs.Agendas.{upto}
-use Rattle.sessions.specs.Worlds.{World, refusedStart}
+use Rattle.sessions.specs.Worlds.{World, isFailed, when, refusal, refusedStart, aimed, ordered}
 use Rattle.sessions.specs.Steps.{Step, woke, brokenBy}
 use Rattle.sessions.specs.Histories.{History, Lived}
 use Rattle.sessions.specs.Promises.{Kept, Stuck, Throughout}
@@ -38,6 +39,12 @@ Keeps f rules c a w w′ = (start : Table) (base : List Table) (h : History) →
 abbrev pub beginning : Option SessionFault → List Rule → Table → List Table → World
 beginning None rules t saved = record { standing = standing.Stirred; agenda = upto (length rules); saves = 0; table = t; saved = saved }
 beginning (Some f) rules t saved = record { standing = standing.Failed; agenda = []; saves = 0; table = t; saved = saved }
+
+-- a call is an order by which variable x keeps the values of a row, and which is refused where its numbers are not fine
+pub record IsOrder (n : ℕ) (c : Call) (x : ℕ) (row : List ℕ) (fine : Bool) (t : Table) : Type 0 where
+  pub aims : aimed c ≡ Some x
+  pub refuses : (most : ℕ) (w : World) → refusal n most w c ≡ when (isFailed (w .standing)) fault.Failed (when (not (ltb x n)) fault.Variable (when (not fine) fault.Value None))
+  pub leaves : ordered c t ≡ kept x row t
 
 -- the world after an order that left the table t, by whether its variable x has a value left
 abbrev pub afterOrder : List Rule → ℕ → Table → World → World

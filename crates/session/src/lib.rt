@@ -1,17 +1,21 @@
 // A session: orders are given, rules are run until none removes more, and tables are saved and taken back.
 ghost use mathlib.Core.Path.{_≡_};
-ghost use mathlib.Core.Bool.{true, false, cond, _&&_};
+ghost use mathlib.Core.Bool.{true, false, cond, not, _&&_};
 ghost use mathlib.Core.List.{List, []};
 ghost use Prim.Native.Nat.{ℕ, _+_, _≤_, _<_};
 ghost use lib.Dec.{eqb, ltb};
 ghost use lib.ListN.{length};
+ghost use lib.Signed.{leZ};
 ghost use Rattle.std.specs.Results.{Cases};
 ghost use Rattle.std.specs.declared.option.Option.{Option};
 ghost use Rattle.std.specs.declared.option.Option.the-variants.{Some, None};
+ghost use Rattle.tables.specs.Values.{isValue};
 ghost use Rattle.tables.specs.Tables.{isVoid, kept, sizeOf};
 ghost use Rattle.sessions.specs.declared.fault.SessionFault.{SessionFault as Faults};
+ghost use Rattle.sessions.specs.declared.call.Call.{Call as Calls};
 ghost use Rattle.sessions.specs.declared.call.Call.the-variants.{Strike, Narrow, Settle, Save, Restore};
-ghost use Rattle.sessions.specs.Worlds.{unfit, refusedStart};
+ghost use Rattle.sessions.specs.declared.fault.SessionFault.the-variants as fault;
+ghost use Rattle.sessions.specs.Worlds.{isFailed, when, unfit, refusedStart};
 ghost use Rattle.sessions.specs.Steps.{values, settled, failed, Settles};
 ghost use Rattle.sessions.specs.Promises.{Stuck};
 ghost use Rattle.agenda.specs.Meaning.{waits};
@@ -19,13 +23,15 @@ ghost use Rattle.session.specs.declared.outcome.Ordered.the-variants.{Done, Em
 ghost use Rattle.sessions.specs.declared.standing.Standing.the-variants.{Failed};
 ghost use Rattle.sessions.specs.Agendas.{joined};
 ghost use Rattle.rules.specs.Banks.{inSet, woken};
-ghost use Rattle.session.specs.Answers.{verdict, orRest};
-ghost use Rattle.session.specs.Meaning.{world, beginning, afterOrder, Begins};
+ghost use Rattle.session.specs.Answers.{ofOrder, ofSettle, ofPlain, runsOf, endOf, verdict, orRest};
+ghost use Rattle.session.specs.Meaning.{world, Steps, Keeps, IsOrder, beginning, afterOrder, Begins};
 
+mod ended;
 pub mod outcome;
 pub mod state;
 
 use agenda::Agenda;
+use ended::Ended;
 pub use outcome::Ordered;
 pub use outcome::Propagated;
 use rules::Bank;
@@ -38,6 +44,7 @@ pub use state::Session;
 use tables::Domains;
 use tables::Levels;
 use tables::Row;
+use tables::rows;
 
 // Whether one of the first n variables has no value.
 fn has_empty<S: Domains>(store: &S, n: usize) -> bool
@@ -49,6 +56,20 @@ fn has_empty<S: Domains>(store: &S, n: usize) -> bool
         }
     }
     false
+}
+
+// Whether a number is a value.
+fn is_value(v: i32) -> bool
+    ensures { λ r. ⌜ r ≡ isValue v ⌝ }
+{
+    v >= -512 && v <= 511
+}
+
+// Whether two numbers are values, and the first is not the greater.
+fn is_range(lo: i32, hi: i32) -> bool
+    ensures { λ r. ⌜ r ≡ (isValue lo && (isValue hi && leZ lo hi)) ⌝ }
+{
+    is_value(lo) && is_value(hi) && lo <= hi
 }
 
 // How many values the variables of a store have.
@@ -171,5 +192,93 @@ impl Session {
         self.wake_at(bank, x, kept.smaller);
         self.standing = Standing::Stirred;
         Ordered::Done
+    }
+
+    // Whether an order on variable x of n is taken; `fine` says that its numbers are in order.
+    fn admit(&self, n: usize, x: usize, fine: bool) -> Result<(), SessionFault>
+        ensures { λ r. ⌜ r ≡ verdict (when (isFailed (now (self .entry) .standing)) fault.Failed (when (not (ltb x n)) fault.Variable (when (not fine) fault.Value None))) ⌝ }
+    {
+        if let Standing::Failed = self.standing {
+            return Err(SessionFault::Failed);
+        }
+        if x >= n {
+            return Err(SessionFault::Variable);
+        }
+        if !fine {
+            return Err(SessionFault::Value);
+        }
+        Ok(())
+    }
+
+    // An order by which variable x keeps the values of a row, unless it is refused; `fine` says that its numbers are in order.
+    fn order<S: Levels, B: Bank>(
+        &mut self,
+        store: &mut S,
+        bank: &B,
+        x: usize,
+        row: Row,
+        fine: bool,
+    ) -> Result<Ordered, SessionFault>
+        ensures step { λ r. ⌜ ((c : Calls) → IsOrder (S·Domains .frame (now (store .entry)) .vars) c x row fine (S·Domains .table (now (store .entry))) → Steps (S·Domains .frame (now (store .entry))) (B·Bank .rules (now (bank .entry))) c (ofOrder r) (world (now (self .entry)) (S·Domains .table (now (store .entry))) (S·Domains .saved (now (store .entry)))) (world (now (self .exit)) (S·Domains .table (now (store .exit))) (S·Domains .saved (now (store .exit))))) ⌝ }
+        ensures refused { λ r. ⌜ Cases r (λ _. Unit {0}) (λ _. (now (self .exit) ≡ now (self .entry)) × (now (store .exit) ≡ now (store .entry))) ⌝ }
+        ensures same_frame { λ _. ⌜ S·Domains .frame (now (store .exit)) ≡ S·Domains .frame (now (store .entry)) ⌝ }
+    {
+        match self.admit(store.variables(), x, fine) {
+            Ok(()) => Ok(self.perform(store, bank, x, row)),
+            Err(fault) => Err(fault),
+        }
+    }
+
+    // Removes the value v of variable x.
+    pub fn strike<S: Levels, B: Bank>(
+        &mut self,
+        store: &mut S,
+        bank: &B,
+        x: usize,
+        v: i32,
+    ) -> Result<Ordered, SessionFault>
+        ensures step { λ r. ⌜ Steps (S·Domains .frame (now (store .entry))) (B·Bank .rules (now (bank .entry))) (Strike x v) (ofOrder r) (world (now (self .entry)) (S·Domains .table (now (store .entry))) (S·Domains .saved (now (store .entry)))) (world (now (self .exit)) (S·Domains .table (now (store .exit))) (S·Domains .saved (now (store .exit)))) ⌝ }
+        ensures promises { λ r. ⌜ Keeps (S·Domains .frame (now (store .entry))) (B·Bank .rules (now (bank .entry))) (Strike x v) (ofOrder r) (world (now (self .entry)) (S·Domains .table (now (store .entry))) (S·Domains .saved (now (store .entry)))) (world (now (self .exit)) (S·Domains .table (now (store .exit))) (S·Domains .saved (now (store .exit)))) ⌝ }
+        ensures refused { λ r. ⌜ Cases r (λ _. Unit {0}) (λ _. (now (self .exit) ≡ now (self .entry)) × (now (store .exit) ≡ now (store .entry))) ⌝ }
+        ensures same_frame { λ _. ⌜ S·Domains .frame (now (store .exit)) ≡ S·Domains .frame (now (store .entry)) ⌝ }
+    {
+        let row = rows::without(rows::all(), v);
+        self.order(store, bank, x, row, is_value(v))
+    }
+
+    // Keeps the values from lo to hi of variable x.
+    pub fn narrow<S: Levels, B: Bank>(
+        &mut self,
+        store: &mut S,
+        bank: &B,
+        x: usize,
+        lo: i32,
+        hi: i32,
+    ) -> Result<Ordered, SessionFault>
+        ensures step { λ r. ⌜ Steps (S·Domains .frame (now (store .entry))) (B·Bank .rules (now (bank .entry))) (Narrow x lo hi) (ofOrder r) (world (now (self .entry)) (S·Domains .table (now (store .entry))) (S·Domains .saved (now (store .entry)))) (world (now (self .exit)) (S·Domains .table (now (store .exit))) (S·Domains .saved (now (store .exit)))) ⌝ }
+        ensures promises { λ r. ⌜ Keeps (S·Domains .frame (now (store .entry))) (B·Bank .rules (now (bank .entry))) (Narrow x lo hi) (ofOrder r) (world (now (self .entry)) (S·Domains .table (now (store .entry))) (S·Domains .saved (now (store .entry)))) (world (now (self .exit)) (S·Domains .table (now (store .exit))) (S·Domains .saved (now (store .exit)))) ⌝ }
+        ensures refused { λ r. ⌜ Cases r (λ _. Unit {0}) (λ _. (now (self .exit) ≡ now (self .entry)) × (now (store .exit) ≡ now (store .entry))) ⌝ }
+        ensures same_frame { λ _. ⌜ S·Domains .frame (now (store .exit)) ≡ S·Domains .frame (now (store .entry)) ⌝ }
+    {
+        let row = rows::interval(lo, hi);
+        self.order(store, bank, x, row, is_range(lo, hi))
+    }
+
+    // Runs the waiting rules, the first first, until none waits or one fails; what a run made smaller wakes the rules that watch it.
+    fn propagate<S: Domains, B: Bank>(&mut self, store: &mut S, bank: &B) -> Ended
+        ensures settles { λ r. ⌜ Settles (S·Domains .frame (now (store .entry)) .vars) (B·Bank .rules (now (bank .entry))) (waits (now (self .entry) .agenda)) (S·Domains .table (now (store .entry))) (runsOf r) (endOf r) (S·Domains .table (now (store .exit))) ⌝ }
+        ensures same_saved { λ _. ⌜ S·Domains .saved (now (store .exit)) ≡ S·Domains .saved (now (store .entry)) ⌝ }
+        ensures same_frame { λ _. ⌜ S·Domains .frame (now (store .exit)) ≡ S·Domains .frame (now (store .entry)) ⌝ }
+        ensures same_saves { λ _. ⌜ now (self .exit) .saves ≡ now (self .entry) .saves ⌝ }
+    {
+        let mut runs = 0;
+        while let Some(rule) = self.agenda.pop() {
+            runs += 1;
+            match bank.run(rule, store) {
+                Ran::Failed => return Ended::Failed { rule, runs },
+                Ran::Done(smaller) => self.wake(bank, smaller),
+            }
+        }
+        Ended::Settled { runs }
     }
 }
