@@ -2,3 +2,4 @@ pub mod Sizes
 pub mod Promised
 pub mod Waking
 pub mod Stepping
+pub mod Turning

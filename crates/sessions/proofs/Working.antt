@@ -103,7 +103,7 @@ times : (d w : ℕ) → 1 ≤ d → w ≤ d * w
 times d w h = let m = mul-le 1 w d w h (omega arith) in omega arith
 
 -- a variable that is not there does not get smaller
-none-outside : (n : ℕ) (t u : Table) → Shaped n t → (k : ℕ) → n ≤ k → smaller t u k ≡ false
+pub none-outside : (n : ℕ) (t u : Table) → Shaped n t → (k : ℕ) → n ≤ k → smaller t u k ≡ false
 none-outside n t u shaped k h = let z = size-none (t k) (λ v _. nothing-outside n t shaped k h v) in le-ltb _ _ (omega arith)
 
 module _ (n : ℕ) (rules : List Rule) (fair : Fair n rules) where
