@@ -1,5 +1,5 @@
 -- From what the code does to the steps of a session.
-use mathlib.Core.Path.{_≡_, refl, sym, ap, subst, fun-ext, _∙_}
+use mathlib.Core.Path.{_≡_, refl, sym, ap, ap₂, subst, fun-ext, _∙_}
 use mathlib.Core.Bool.{Bool, true, false, cond, not, _&&_, _||_}
 use mathlib.Core.List.{List, [], _∷_}
 use mathlib.Core.Logic.{⊎-elim}
@@ -20,16 +20,19 @@ use Rattle.tables.specs.Rows.{inRow}
 use Rattle.tables.specs.Tables.{Table, sizeOf, Shaped, kept}
 use Rattle.tables.specs.Stores.{Frame}
 use Rattle.rules.specs.Rules.{Rule}
+use Rattle.sessions.specs.declared.standing.Standing.{Standing}
 use Rattle.sessions.specs.declared.standing.Standing.the-variants as standing
 use Rattle.sessions.specs.declared.call.Call.{Call}
 use Rattle.sessions.specs.declared.call.Call.the-variants.{Strike, Narrow, Settle, Save, Restore}
 use Rattle.sessions.specs.declared.fault.SessionFault.{SessionFault}
 use Rattle.sessions.specs.declared.fault.SessionFault.the-variants as fault
 use Rattle.sessions.specs.Worlds.{World, isFailed, when, refusal, aimed, ordered}
-use Rattle.sessions.specs.Steps.{woke, stirredBy, brokenBy, Step, refused, stirs, empties}
+use Rattle.sessions.specs.Steps.{values, woke, settled, failed, Settles, brokenBy, settledBy, savedBy, restoredBy, refused, stirs, empties, settles, breaks, saves, restores}
+use Rattle.sessions.proofs.Starting.{failed-stands}
 use Rattle.session.specs.declared.outcome.Ordered.{Ordered}
 use Rattle.session.specs.declared.outcome.Ordered.the-variants as outcome
-use Rattle.session.specs.Answers.{ofOrder, verdict}
+use Rattle.session.specs.declared.outcome.Propagated.the-variants as propagated
+use Rattle.session.specs.Answers.{ofOrder, ofSettle, ofPlain, verdict}
 use Rattle.session.specs.Meaning.{Steps, IsOrder, afterOrder}
 
 -- a verdict that passes, and one that does not
@@ -91,3 +94,31 @@ is-narrow n x lo hi row t fine shaped good is = record
     ; refuses = λ most w. ap (λ (b : Bool). when (isFailed (w .standing)) fault.Failed (when (not (ltb x n)) fault.Variable (when (not b) fault.Value None))) (sym good)
     ; leaves = fun-ext (λ y. fun-ext (λ u. row-at (t y u) (eqb y x) (leZ lo u && leZ u hi) (inRow row u) (λ h. sym (is u ∙ ap (λ (b : Bool). b && (leZ lo u && leZ u hi)) (shaped y u h .1)))))
     }
+
+-- ---- settles
+
+module _ (f : Frame) (rules : List Rule) (w : World) where
+  pub settle-refused : (w′ : World) → w .standing ≡ standing.Failed → w′ ≡ w → Steps f rules Settle (ofSettle (Err fault.Failed)) w w′
+  settle-refused w′ e same = refused (ap (λ (s : Standing). when (isFailed s) fault.Failed None) e) same
+
+  pub settle-settles : (w′ : World) (k before after : ℕ) → (w .standing ≡ standing.Failed → ⊥) → Settles (f .vars) rules (w .agenda) (w .table) k settled (w′ .table) → before ≡ values (f .vars) (w .table) → after ≡ values (f .vars) (w′ .table) → w′ ≡ settledBy (w′ .table) w → Steps f rules Settle (ofSettle (Ok (propagated.Settled k (before - after)))) w w′
+  settle-settles w′ k before after ne run eb ea is =
+      subst (λ m. Steps f rules Settle (ofSettle (Ok (propagated.Settled k m))) w w′) (sym (ap₂ (λ a b. a - b) eb ea)) (settles (settle-free ne) run is)
+    where
+    settle-free : (w .standing ≡ standing.Failed → ⊥) → when (isFailed (w .standing)) fault.Failed None ≡ None
+    settle-free ne = cond-false _ _ _ (⊎-elim (λ h. absurd (ne (failed-stands (w .standing) h))) (λ h. h) (cases-bool (isFailed (w .standing))))
+
+  pub settle-breaks : (w′ : World) (i k : ℕ) → (w .standing ≡ standing.Failed → ⊥) → Settles (f .vars) rules (w .agenda) (w .table) k (failed i) (w′ .table) → w′ ≡ brokenBy (w′ .table) w → Steps f rules Settle (ofSettle (Ok (propagated.Failed i k))) w w′
+  settle-breaks w′ i k ne run is =
+      breaks (cond-false _ _ _ (⊎-elim (λ h. absurd (ne (failed-stands (w .standing) h))) (λ h. h) (cases-bool (isFailed (w .standing))))) run is
+
+-- ---- saves and restores
+
+module _ (f : Frame) (rules : List Rule) (w w′ : World) where
+  pub save-step : (r : Result (Unit {0}) SessionFault) → r ≡ verdict (refusal (f .vars) (f .most) w Save) → w′ ≡ cond (isOk r) (savedBy w) w → Steps f rules Save (ofPlain r) w w′
+  save-step (Ok u) e is = saves (passes _ u e) is
+  save-step (Err g) e is = refused (refuses _ g e) is
+
+  pub restore-step : (r : Result (Unit {0}) SessionFault) → r ≡ verdict (refusal (f .vars) (f .most) w Restore) → w′ ≡ cond (isOk r) (restoredBy w) w → Steps f rules Restore (ofPlain r) w w′
+  restore-step (Ok u) e is = restores (passes _ u e) is
+  restore-step (Err g) e is = refused (refuses _ g e) is

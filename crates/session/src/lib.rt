@@ -6,7 +6,7 @@ ghost use Prim.Native.Nat.{ℕ, _+_, _≤_, _<_};
 ghost use lib.Dec.{eqb, ltb};
 ghost use lib.ListN.{length};
 ghost use lib.Signed.{leZ};
-ghost use Rattle.std.specs.Results.{Cases};
+ghost use Rattle.std.specs.Results.{Cases, isOk};
 ghost use Rattle.std.specs.declared.option.Option.{Option};
 ghost use Rattle.std.specs.declared.option.Option.the-variants.{Some, None};
 ghost use Rattle.tables.specs.Values.{isValue};
@@ -15,8 +15,8 @@ ghost use Rattle.sessions.specs.declared.fault.SessionFault.{SessionFault as Fa
 ghost use Rattle.sessions.specs.declared.call.Call.{Call as Calls};
 ghost use Rattle.sessions.specs.declared.call.Call.the-variants.{Strike, Narrow, Settle, Save, Restore};
 ghost use Rattle.sessions.specs.declared.fault.SessionFault.the-variants as fault;
-ghost use Rattle.sessions.specs.Worlds.{isFailed, when, unfit, refusedStart};
-ghost use Rattle.sessions.specs.Steps.{values, settled, failed, Settles};
+ghost use Rattle.sessions.specs.Worlds.{isFailed, when, refusal, unfit, refusedStart};
+ghost use Rattle.sessions.specs.Steps.{values, settled, Settles, savedBy, restoredBy};
 ghost use Rattle.sessions.specs.Promises.{Stuck};
 ghost use Rattle.agenda.specs.Meaning.{waits};
 ghost use Rattle.session.specs.declared.outcome.Ordered.the-variants.{Done, Emptied};
@@ -39,11 +39,13 @@ use rules::Ran;
 use rules::sets;
 use rules::sets::Set;
 use sessions::SessionFault;
+use sessions::SessionFaultFromStore;
 use sessions::Standing;
 pub use state::Session;
 use tables::Domains;
 use tables::Levels;
 use tables::Row;
+use tables::StoreFault;
 use tables::rows;
 
 // Whether one of the first n variables has no value.
@@ -270,6 +272,7 @@ impl Session {
         ensures same_saved { λ _. ⌜ S·Domains .saved (now (store .exit)) ≡ S·Domains .saved (now (store .entry)) ⌝ }
         ensures same_frame { λ _. ⌜ S·Domains .frame (now (store .exit)) ≡ S·Domains .frame (now (store .entry)) ⌝ }
         ensures same_saves { λ _. ⌜ now (self .exit) .saves ≡ now (self .entry) .saves ⌝ }
+        ensures idle { λ r. ⌜ (endOf r ≡ settled → waits (now (self .exit) .agenda) ≡ []) ⌝ }
     {
         let mut runs = 0;
         while let Some(rule) = self.agenda.pop() {
@@ -280,5 +283,113 @@ impl Session {
             }
         }
         Ended::Settled { runs }
+    }
+
+    // Settles, unless the session stands failed.
+    fn try_settle<S: Levels, B: Bank>(
+        &mut self,
+        store: &mut S,
+        bank: &B,
+    ) -> Result<Propagated, SessionFault>
+        ensures step { λ r. ⌜ Steps (S·Domains .frame (now (store .entry))) (B·Bank .rules (now (bank .entry))) Settle (ofSettle r) (world (now (self .entry)) (S·Domains .table (now (store .entry))) (S·Domains .saved (now (store .entry)))) (world (now (self .exit)) (S·Domains .table (now (store .exit))) (S·Domains .saved (now (store .exit)))) ⌝ }
+        ensures refused { λ r. ⌜ Cases r (λ _. Unit {0}) (λ _. (now (self .exit) ≡ now (self .entry)) × (now (store .exit) ≡ now (store .entry))) ⌝ }
+        ensures same_frame { λ _. ⌜ S·Domains .frame (now (store .exit)) ≡ S·Domains .frame (now (store .entry)) ⌝ }
+    {
+        if let Standing::Failed = self.standing {
+            return Err(SessionFault::Failed);
+        }
+        let before = total(store);
+        match self.propagate(store, bank) {
+            Ended::Settled { runs } => {
+                self.standing = Standing::Settled;
+                Ok(Propagated::Settled {
+                    runs,
+                    removed: before - total(store),
+                })
+            }
+            Ended::Failed { rule, runs } => {
+                self.fail();
+                Ok(Propagated::Failed { rule, runs })
+            }
+        }
+    }
+
+    // Saves the table, unless the session does not stand settled or the store is full.
+    fn try_save<S: Levels>(&mut self, store: &mut S) -> Result<(), SessionFault>
+        ensures answer { λ r. ⌜ r ≡ verdict (refusal (S·Domains .frame (now (store .entry)) .vars) (S·Domains .frame (now (store .entry)) .most) (world (now (self .entry)) (S·Domains .table (now (store .entry))) (S·Domains .saved (now (store .entry)))) Save) ⌝ }
+        ensures after { λ r. ⌜ world (now (self .exit)) (S·Domains .table (now (store .exit))) (S·Domains .saved (now (store .exit))) ≡ cond (isOk r) (savedBy (world (now (self .entry)) (S·Domains .table (now (store .entry))) (S·Domains .saved (now (store .entry))))) (world (now (self .entry)) (S·Domains .table (now (store .entry))) (S·Domains .saved (now (store .entry)))) ⌝ }
+        ensures refused { λ r. ⌜ Cases r (λ _. Unit {0}) (λ _. (now (self .exit) ≡ now (self .entry)) × (now (store .exit) ≡ now (store .entry))) ⌝ }
+        ensures same_frame { λ _. ⌜ S·Domains .frame (now (store .exit)) ≡ S·Domains .frame (now (store .entry)) ⌝ }
+    {
+        match self.standing {
+            Standing::Failed => return Err(SessionFault::Failed),
+            Standing::Stirred => return Err(SessionFault::Stirred),
+            Standing::Settled => {}
+        }
+        if self.saves >= 16 {
+            return Err(SessionFault::Store(StoreFault::Full));
+        }
+        store.save()?;
+        self.saves += 1;
+        Ok(())
+    }
+
+    // Goes back to the session's last save, if it has one of its own.
+    fn try_restore<S: Levels>(&mut self, store: &mut S) -> Result<(), SessionFault>
+        ensures answer { λ r. ⌜ r ≡ verdict (refusal (S·Domains .frame (now (store .entry)) .vars) (S·Domains .frame (now (store .entry)) .most) (world (now (self .entry)) (S·Domains .table (now (store .entry))) (S·Domains .saved (now (store .entry)))) Restore) ⌝ }
+        ensures after { λ r. ⌜ world (now (self .exit)) (S·Domains .table (now (store .exit))) (S·Domains .saved (now (store .exit))) ≡ cond (isOk r) (restoredBy (world (now (self .entry)) (S·Domains .table (now (store .entry))) (S·Domains .saved (now (store .entry))))) (world (now (self .entry)) (S·Domains .table (now (store .entry))) (S·Domains .saved (now (store .entry)))) ⌝ }
+        ensures refused { λ r. ⌜ Cases r (λ _. Unit {0}) (λ _. (now (self .exit) ≡ now (self .entry)) × (now (store .exit) ≡ now (store .entry))) ⌝ }
+        ensures same_frame { λ _. ⌜ S·Domains .frame (now (store .exit)) ≡ S·Domains .frame (now (store .entry)) ⌝ }
+    {
+        if self.saves == 0 {
+            return Err(SessionFault::NoSave);
+        }
+        store.restore()?;
+        self.agenda.clear();
+        self.standing = Standing::Settled;
+        self.saves -= 1;
+        Ok(())
+    }
+
+    // Runs the waiting rules until none removes more, or one fails.
+    pub fn settle<S: Levels, B: Bank>(
+        &mut self,
+        store: &mut S,
+        bank: &B,
+    ) -> Result<Propagated, SessionFault>
+        ensures step { λ r. ⌜ Steps (S·Domains .frame (now (store .entry))) (B·Bank .rules (now (bank .entry))) Settle (ofSettle r) (world (now (self .entry)) (S·Domains .table (now (store .entry))) (S·Domains .saved (now (store .entry)))) (world (now (self .exit)) (S·Domains .table (now (store .exit))) (S·Domains .saved (now (store .exit)))) ⌝ }
+        ensures promises { λ r. ⌜ Keeps (S·Domains .frame (now (store .entry))) (B·Bank .rules (now (bank .entry))) Settle (ofSettle r) (world (now (self .entry)) (S·Domains .table (now (store .entry))) (S·Domains .saved (now (store .entry)))) (world (now (self .exit)) (S·Domains .table (now (store .exit))) (S·Domains .saved (now (store .exit)))) ⌝ }
+        ensures refused { λ r. ⌜ Cases r (λ _. Unit {0}) (λ _. (now (self .exit) ≡ now (self .entry)) × (now (store .exit) ≡ now (store .entry))) ⌝ }
+        ensures same_frame { λ _. ⌜ S·Domains .frame (now (store .exit)) ≡ S·Domains .frame (now (store .entry)) ⌝ }
+    {
+        self.try_settle(store, bank)
+    }
+
+    // Saves the table of a session that stands settled.
+    pub fn save<S: Levels, B: Bank>(
+        &mut self,
+        store: &mut S,
+        bank: &B,
+    ) -> Result<(), SessionFault>
+        ensures step { λ r. ⌜ Steps (S·Domains .frame (now (store .entry))) (B·Bank .rules (now (bank .entry))) Save (ofPlain r) (world (now (self .entry)) (S·Domains .table (now (store .entry))) (S·Domains .saved (now (store .entry)))) (world (now (self .exit)) (S·Domains .table (now (store .exit))) (S·Domains .saved (now (store .exit)))) ⌝ }
+        ensures promises { λ r. ⌜ Keeps (S·Domains .frame (now (store .entry))) (B·Bank .rules (now (bank .entry))) Save (ofPlain r) (world (now (self .entry)) (S·Domains .table (now (store .entry))) (S·Domains .saved (now (store .entry)))) (world (now (self .exit)) (S·Domains .table (now (store .exit))) (S·Domains .saved (now (store .exit)))) ⌝ }
+        ensures refused { λ r. ⌜ Cases r (λ _. Unit {0}) (λ _. (now (self .exit) ≡ now (self .entry)) × (now (store .exit) ≡ now (store .entry))) ⌝ }
+        ensures same_frame { λ _. ⌜ S·Domains .frame (now (store .exit)) ≡ S·Domains .frame (now (store .entry)) ⌝ }
+    {
+        self.try_save(store)
+    }
+
+    // Goes back to the session's last save, and drops it.
+    pub fn restore<S: Levels, B: Bank>(
+        &mut self,
+        store: &mut S,
+        bank: &B,
+    ) -> Result<(), SessionFault>
+        ensures step { λ r. ⌜ Steps (S·Domains .frame (now (store .entry))) (B·Bank .rules (now (bank .entry))) Restore (ofPlain r) (world (now (self .entry)) (S·Domains .table (now (store .entry))) (S·Domains .saved (now (store .entry)))) (world (now (self .exit)) (S·Domains .table (now (store .exit))) (S·Domains .saved (now (store .exit)))) ⌝ }
+        ensures promises { λ r. ⌜ Keeps (S·Domains .frame (now (store .entry))) (B·Bank .rules (now (bank .entry))) Restore (ofPlain r) (world (now (self .entry)) (S·Domains .table (now (store .entry))) (S·Domains .saved (now (store .entry)))) (world (now (self .exit)) (S·Domains .table (now (store .exit))) (S·Domains .saved (now (store .exit)))) ⌝ }
+        ensures refused { λ r. ⌜ Cases r (λ _. Unit {0}) (λ _. (now (self .exit) ≡ now (self .entry)) × (now (store .exit) ≡ now (store .entry))) ⌝ }
+        ensures same_frame { λ _. ⌜ S·Domains .frame (now (store .exit)) ≡ S·Domains .frame (now (store .entry)) ⌝ }
+    {
+        self.try_restore(store)
     }
 }

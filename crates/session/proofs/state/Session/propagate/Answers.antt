@@ -5,6 +5,7 @@ use Rattle.tables.specs.Stores.{Frame}
 use Rattle.rules.specs.Banks.{called, Run}
 use Rattle.rules.specs.declared.ran.Ran.the-variants as ran
 use Rattle.sessions.specs.Steps.{Settles, settled, failed}
+use Rattle.sessions.proofs.Working.{failed-settled}
 use Rattle.agenda.specs.Facts.{waits-few}
 use Rattle.agenda.specs.Meaning.{waits}
 use Rattle.session.proofs.Turning.{at-first, last-turn, no-turn, more-turns}
@@ -27,6 +28,7 @@ returns-in-Failed g c =
     ; same-saved = c .run .ensures .same-saved ∙ inv .1
     ; same-frame = c .run .ensures .same-frame ∙ inv .2
     ; same-saves = inv .3
+    ; idle = λ e. absurd (failed-settled (c .in-Some .rule) e)
     }
 
 pub loop-rule-less : need.loop-rule-less
@@ -51,4 +53,5 @@ returns g c =
     ; same-saved = inv .1
     ; same-frame = inv .2
     ; same-saves = inv .3
+    ; idle = λ _. c .in-rest .ensures tt .1
     }
