@@ -26,12 +26,12 @@ set-past s l k h = at-past s k (omega arith)
 pub nothing-in : (k : ℕ) → inSet (0 ∷ 0 ∷ 0 ∷ 0 ∷ []) k ≡ false
 nothing-in k = words (k / 64) (k % 64)
   where
-  words : (j b : ℕ) → bit (getD (0 ∷ 0 ∷ 0 ∷ 0 ∷ []) j 0) b ≡ false
-  words zero b = bit-zero b
-  words (suc zero) b = bit-zero b
-  words (suc (suc zero)) b = bit-zero b
-  words (suc (suc (suc zero))) b = bit-zero b
-  words (suc (suc (suc (suc j)))) b = bit-zero b
+    words : (j b : ℕ) → bit (getD (0 ∷ 0 ∷ 0 ∷ 0 ∷ []) j 0) b ≡ false
+    words zero b = bit-zero b
+    words (suc zero) b = bit-zero b
+    words (suc (suc zero)) b = bit-zero b
+    words (suc (suc (suc zero))) b = bit-zero b
+    words (suc (suc (suc (suc j)))) b = bit-zero b
 
 -- a member lies below 256
 pub first-below : (s : List ℕ) → length s ≡ 4 → (from : ℕ) (r : Option ℕ) → First (inSet s) from 1024 r → First (inSet s) from 256 r
@@ -81,17 +81,17 @@ and-false false = refl
 pub called-past : (rules : List Rule) (i : ℕ) → countOf rules ≤ i → called rules i ≡ nobody
 called-past rules i h = cases (leb (length rules) 256) refl
   where
-  cases : (q : Bool) → leb (length rules) 256 ≡ q → called rules i ≡ nobody
-  cases true e = ap (λ (b : Bool). cond b (getD rules i nobody) nobody) e ∙ getD-past rules i nobody (subst (λ (b : Bool). cond b (length rules) 257 ≤ i) e h)
-  cases false e = ap (λ (b : Bool). cond b (getD rules i nobody) nobody) e
+    cases : (q : Bool) → leb (length rules) 256 ≡ q → called rules i ≡ nobody
+    cases true e = ap (λ (b : Bool). cond b (getD rules i nobody) nobody) e ∙ getD-past rules i nobody (subst (λ (b : Bool). cond b (length rules) 257 ≤ i) e h)
+    cases false e = ap (λ (b : Bool). cond b (getD rules i nobody) nobody) e
 
 -- in a bank of more than 256 nobody is called
 pub called-many : (rules : List Rule) (i : ℕ) → 256 < countOf rules → called rules i ≡ nobody
 called-many rules i h = cases (leb (length rules) 256) refl
   where
-  cases : (q : Bool) → leb (length rules) 256 ≡ q → called rules i ≡ nobody
-  cases true e = let l = leb-true (length rules) 256 e in absurd (omega (arith, subst (λ (b : Bool). 256 < cond b (length rules) 257) e h))
-  cases false e = ap (λ (b : Bool). cond b (getD rules i nobody) nobody) e
+    cases : (q : Bool) → leb (length rules) 256 ≡ q → called rules i ≡ nobody
+    cases true e = let l = leb-true (length rules) 256 e in absurd (omega (arith, subst (λ (b : Bool). 256 < cond b (length rules) 257) e h))
+    cases false e = ap (λ (b : Bool). cond b (getD rules i nobody) nobody) e
 
 pub woken-nobody : (rules : List Rule) (s : ℕ → Bool) (i : ℕ) → called rules i ≡ nobody → woken rules s i ≡ false
 woken-nobody rules s i e = woken-none rules s i (λ x h. ap (λ (r : Rule). s x && r .watches x) e ∙ and-false (s x))

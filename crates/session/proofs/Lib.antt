@@ -3,3 +3,4 @@ pub mod Promised
 pub mod Waking
 pub mod Stepping
 pub mod Turning
+pub mod Playing

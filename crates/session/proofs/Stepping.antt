@@ -10,7 +10,7 @@ use lib.IntN.{ℤ}
 use lib.ListN.{length}
 use lib.Signed.{leZ}
 use Rattle.std.proofs.shelf.Tests.{both-ways, cases-bool, cond-true, cond-false}
-use Rattle.std.specs.Results.{isOk}
+use Rattle.std.specs.Results.{isOk, Cases}
 use Rattle.std.specs.declared.option.Option.{Option}
 use Rattle.std.specs.declared.option.Option.the-variants.{Some, None}
 use Rattle.std.specs.declared.result.Result.{Result}
@@ -24,13 +24,16 @@ use Rattle.sessions.specs.declared.standing.Standing.{Standing}
 use Rattle.sessions.specs.declared.standing.Standing.the-variants as standing
 use Rattle.sessions.specs.declared.call.Call.{Call}
 use Rattle.sessions.specs.declared.call.Call.the-variants.{Strike, Narrow, Settle, Save, Restore}
+use Rattle.sessions.specs.declared.answer.Answer.{Answer}
 use Rattle.sessions.specs.declared.fault.SessionFault.{SessionFault}
 use Rattle.sessions.specs.declared.fault.SessionFault.the-variants as fault
 use Rattle.sessions.specs.Worlds.{World, isFailed, when, refusal, aimed, ordered}
 use Rattle.sessions.specs.Steps.{values, woke, settled, failed, Settles, brokenBy, settledBy, savedBy, restoredBy, refused, stirs, empties, settles, breaks, saves, restores}
+use Rattle.sessions.specs.Histories.{granted}
 use Rattle.sessions.proofs.Starting.{failed-stands}
 use Rattle.session.specs.declared.outcome.Ordered.{Ordered}
 use Rattle.session.specs.declared.outcome.Ordered.the-variants as outcome
+use Rattle.session.specs.declared.outcome.Propagated.{Propagated}
 use Rattle.session.specs.declared.outcome.Propagated.the-variants as propagated
 use Rattle.session.specs.Answers.{ofOrder, ofSettle, ofPlain, verdict}
 use Rattle.session.specs.Meaning.{Steps, IsOrder, afterOrder}
@@ -44,9 +47,9 @@ pub refuses : (o : Option SessionFault) (f : SessionFault) → Err f ≡ verdict
 refuses None f e = absurd (both-ways false refl (ap isOk e))
 refuses (Some g) f e = ap Some (sym (ap fault-of e))
   where
-  fault-of : Result (Unit {0}) SessionFault → SessionFault
-  fault-of (Ok u) = f
-  fault-of (Err h) = h
+    fault-of : Result (Unit {0}) SessionFault → SessionFault
+    fault-of (Ok u) = f
+    fault-of (Err h) = h
 
 -- ---- orders
 
@@ -82,18 +85,18 @@ struck true false q = refl
 struck true true q = refl
 
 pub is-strike : (n x : ℕ) (v : ℤ) (row all : List ℕ) (t : Table) (fine : Bool) → Shaped n t → fine ≡ isValue v → ((u : ℤ) → inRow all u ≡ isValue u) → ((u : ℤ) → inRow row u ≡ (inRow all u && not (equalZ u v))) → IsOrder n (Strike x v) x row fine t
-is-strike n x v row all t fine shaped good whole is = record
-    { aims = refl
-    ; refuses = λ most w. ap (λ (b : Bool). when (isFailed (w .standing)) fault.Failed (when (not (ltb x n)) fault.Variable (when (not b) fault.Value None))) (sym good)
-    ; leaves = fun-ext (λ y. fun-ext (λ u. struck (t y u) (eqb y x) (equalZ u v) ∙ row-at (t y u) (eqb y x) (not (equalZ u v)) (inRow row u) (λ h. sym (is u ∙ ap (λ (b : Bool). b && not (equalZ u v)) (whole u ∙ shaped y u h .1)))))
-    }
+is-strike n x v row all t fine shaped good whole is = record {
+  aims = refl;
+  refuses = λ most w. ap (λ (b : Bool). when (isFailed (w .standing)) fault.Failed (when (not (ltb x n)) fault.Variable (when (not b) fault.Value None))) (sym good);
+  leaves = fun-ext (λ y. fun-ext (λ u. struck (t y u) (eqb y x) (equalZ u v) ∙ row-at (t y u) (eqb y x) (not (equalZ u v)) (inRow row u) (λ h. sym (is u ∙ ap (λ (b : Bool). b && not (equalZ u v)) (whole u ∙ shaped y u h .1)))));
+}
 
 pub is-narrow : (n x : ℕ) (lo hi : ℤ) (row : List ℕ) (t : Table) (fine : Bool) → Shaped n t → fine ≡ (isValue lo && (isValue hi && leZ lo hi)) → ((u : ℤ) → inRow row u ≡ (isValue u && (leZ lo u && leZ u hi))) → IsOrder n (Narrow x lo hi) x row fine t
-is-narrow n x lo hi row t fine shaped good is = record
-    { aims = refl
-    ; refuses = λ most w. ap (λ (b : Bool). when (isFailed (w .standing)) fault.Failed (when (not (ltb x n)) fault.Variable (when (not b) fault.Value None))) (sym good)
-    ; leaves = fun-ext (λ y. fun-ext (λ u. row-at (t y u) (eqb y x) (leZ lo u && leZ u hi) (inRow row u) (λ h. sym (is u ∙ ap (λ (b : Bool). b && (leZ lo u && leZ u hi)) (shaped y u h .1)))))
-    }
+is-narrow n x lo hi row t fine shaped good is = record {
+  aims = refl;
+  refuses = λ most w. ap (λ (b : Bool). when (isFailed (w .standing)) fault.Failed (when (not (ltb x n)) fault.Variable (when (not b) fault.Value None))) (sym good);
+  leaves = fun-ext (λ y. fun-ext (λ u. row-at (t y u) (eqb y x) (leZ lo u && leZ u hi) (inRow row u) (λ h. sym (is u ∙ ap (λ (b : Bool). b && (leZ lo u && leZ u hi)) (shaped y u h .1)))));
+}
 
 -- ---- settles
 
@@ -105,8 +108,8 @@ module _ (f : Frame) (rules : List Rule) (w : World) where
   settle-settles w′ k before after ne run eb ea is =
       subst (λ m. Steps f rules Settle (ofSettle (Ok (propagated.Settled k m))) w w′) (sym (ap₂ (λ a b. a - b) eb ea)) (settles (settle-free ne) run is)
     where
-    settle-free : (w .standing ≡ standing.Failed → ⊥) → when (isFailed (w .standing)) fault.Failed None ≡ None
-    settle-free ne = cond-false _ _ _ (⊎-elim (λ h. absurd (ne (failed-stands (w .standing) h))) (λ h. h) (cases-bool (isFailed (w .standing))))
+      settle-free : (w .standing ≡ standing.Failed → ⊥) → when (isFailed (w .standing)) fault.Failed None ≡ None
+      settle-free ne = cond-false _ _ _ (⊎-elim (λ h. absurd (ne (failed-stands (w .standing) h))) (λ h. h) (cases-bool (isFailed (w .standing))))
 
   pub settle-breaks : (w′ : World) (i k : ℕ) → (w .standing ≡ standing.Failed → ⊥) → Settles (f .vars) rules (w .agenda) (w .table) k (failed i) (w′ .table) → w′ ≡ brokenBy (w′ .table) w → Steps f rules Settle (ofSettle (Ok (propagated.Failed i k))) w w′
   settle-breaks w′ i k ne run is =
@@ -122,3 +125,24 @@ module _ (f : Frame) (rules : List Rule) (w w′ : World) where
   pub restore-step : (r : Result (Unit {0}) SessionFault) → r ≡ verdict (refusal (f .vars) (f .most) w Restore) → w′ ≡ cond (isOk r) (restoredBy w) w → Steps f rules Restore (ofPlain r) w w′
   restore-step (Ok u) e is = restores (passes _ u e) is
   restore-step (Err g) e is = refused (refuses _ g e) is
+
+-- ---- answers
+
+-- a step of a call and an answer that are the same
+pub answered : (f : Frame) (rules : List Rule) (w w′ : World) {c d : Call} {a b : Answer} → c ≡ d → a ≡ b → Steps f rules d b w w′ → Steps f rules c a w w′
+answered f rules w w′ {c} {d} {a} {b} e g step = subst (λ (x : Call). Steps f rules x a w w′) (sym e) (subst (λ (y : Answer). Steps f rules d y w w′) (sym g) step)
+
+-- an answer that is no refusal, by each kind of call
+pub order-granted : (P : Type 0) (r : Result Ordered SessionFault) (a : Answer) → a ≡ ofOrder r → Cases r (λ _. Unit {0}) (λ _. P) → granted a ≡ false → P
+order-granted P (Ok outcome.Done) a e p g = absurd (both-ways true (sym (ap granted e) ∙ g) refl)
+order-granted P (Ok outcome.Emptied) a e p g = absurd (both-ways true (sym (ap granted e) ∙ g) refl)
+order-granted P (Err f) a e p g = p
+
+pub settle-granted : (P : Type 0) (r : Result Propagated SessionFault) (a : Answer) → a ≡ ofSettle r → Cases r (λ _. Unit {0}) (λ _. P) → granted a ≡ false → P
+settle-granted P (Ok (propagated.Settled k m)) a e p g = absurd (both-ways true (sym (ap granted e) ∙ g) refl)
+settle-granted P (Ok (propagated.Failed i k)) a e p g = absurd (both-ways true (sym (ap granted e) ∙ g) refl)
+settle-granted P (Err f) a e p g = p
+
+pub plain-granted : (P : Type 0) (r : Result (Unit {0}) SessionFault) (a : Answer) → a ≡ ofPlain r → Cases r (λ _. Unit {0}) (λ _. P) → granted a ≡ false → P
+plain-granted P (Ok u) a e p g = absurd (both-ways true (sym (ap granted e) ∙ g) refl)
+plain-granted P (Err f) a e p g = p

@@ -76,11 +76,12 @@ falls n rules a rest rest′ s i t u shaped is run joins short =
     omega arith)
     (cases-lt (values n u) (values n t))
   where
-  quiet : (x : ℕ) (p q : Bool) → p ≡ false → (p && q) ≡ false
-  quiet x false q e = refl
-  quiet x true q e = absurd (both-ways true e refl)
-  unchanged : values n t ≤ values n u → (x : ℕ) → smaller t u x ≡ false
-  unchanged same x = ⊎-elim (λ low. le-ltb _ _ (values-same n u t (run .inside) same x low)) (λ high. none-outside n t u shaped x high) (cases-lt x n)
+    quiet : (x : ℕ) (p q : Bool) → p ≡ false → (p && q) ≡ false
+    quiet x false q e = refl
+    quiet x true q e = absurd (both-ways true e refl)
+
+    unchanged : values n t ≤ values n u → (x : ℕ) → smaller t u x ≡ false
+    unchanged same x = ⊎-elim (λ low. le-ltb _ _ (values-same n u t (run .inside) same x low)) (λ high. none-outside n t u shaped x high) (cases-lt x n)
 
 -- one turn more, by the frames that the store has on the way: f at the beginning, e before the turn, d after it
 pub more-turns : (f e d : Frame) (rules : List Rule) (a₀ a rest rest′ s : List ℕ) (i r : ℕ) (t₀ t u : Table) → e ≡ f → d ≡ e → Shaped (e .vars) t → a ≡ i ∷ rest → Run (e .vars) (called rules i) t (ran.Done s) u → rest′ ≡ joined rest (woken rules (inSet s)) → length rest′ ≤ 256
@@ -89,8 +90,10 @@ pub more-turns : (f e d : Frame) (rules : List Rule) (a₀ a rest rest′ s : Li
     → ((k : ℕ) (o : Outcome) (v : Table) → Settles (f .vars) rules rest′ u k o v → Settles (f .vars) rules a₀ t₀ ((r + 1) + k) o v) × ((r + 1) + (257 * values (d .vars) u + length rest′) ≤ 67371264) × (257 * values (d .vars) u + length rest′ < 257 * values (e .vars) t + length a)
 more-turns f e d rules a₀ a rest rest′ s i r t₀ t u ef de shaped is run joins short inv bound =
     let less = falls (e .vars) rules a rest rest′ s i t u shaped is run joins short in
-    let less′ : 257 * values (d .vars) u + length rest′ < 257 * values (e .vars) t + length a = subst (λ (h : Frame). 257 * values (h .vars) u + length rest′ < 257 * values (e .vars) t + length a) (sym de) less in
-    ((λ k o v more.
-      let sum : r + suc k ≡ (r + 1) + k = omega arith in
-      subst (λ m. Settles (f .vars) rules a₀ t₀ m o v) sum (inv (suc k) o v (turn (f .vars) rules a rest rest′ s i t u is (subst (λ (h : Frame). Run (h .vars) (called rules i) t (ran.Done s) u) ef run) joins k o v more))),
-     omega arith, less′)
+    let less′ : 257 * values (d .vars) u + length rest′ < 257 * values (e .vars) t + length a = subst (λ (h : Frame). 257 * values (h .vars) u + length rest′ < 257 * values (e .vars) t + length a) (sym de) less in (
+      (λ k o v more.
+          let sum : r + suc k ≡ (r + 1) + k = omega arith in
+          subst (λ m. Settles (f .vars) rules a₀ t₀ m o v) sum (inv (suc k) o v (turn (f .vars) rules a rest rest′ s i t u is (subst (λ (h : Frame). Run (h .vars) (called rules i) t (ran.Done s) u) ef run) joins k o v more))),
+      omega arith,
+      less′,
+    )

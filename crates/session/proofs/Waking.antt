@@ -45,30 +45,30 @@ wakes-none rules agenda x b lacks =
     sym (joined-none agenda (woken rules (λ z. b && (eqb z x && ltb x 256)))
     (λ k h. absurd (both-ways _ (woken-none rules (λ z. b && (eqb z x && ltb x 256)) k (λ y l. off b lacks _ _)) h)))
   where
-  off : (b : Bool) → b ≡ false → (p q : Bool) → ((b && p) && q) ≡ false
-  off false e p q = refl
-  off true e p q = absurd (both-ways true e refl)
+    off : (b : Bool) → b ≡ false → (p q : Bool) → ((b && p) && q) ≡ false
+    off false e p q = refl
+    off true e p q = absurd (both-ways true e refl)
 
 -- a keep makes no other variable smaller
 pub kept-smaller : (n x : ℕ) (row : List ℕ) (t : Table) → n ≤ 256 → Shaped n t → (z : ℕ) → (ltb (sizeOf (kept x row t x)) (sizeOf (t x)) && (eqb z x && ltb x 256)) ≡ smaller t (kept x row t) z
 kept-smaller n x row t few shaped z =
     ⊎-elim
     (λ (e : z ≡ x). ⊎-elim
-      (λ low. ap (λ (q : Bool). ltb (sizeOf (kept x row t x)) (sizeOf (t x)) && q) (ap₂ (λ (p q : Bool). p && q) (eq-eqb z x e) (lt-ltb x 256 low)) ∙ and-true _ ∙ ap (λ y. smaller t (kept x row t) y) (sym e))
-      (λ high.
-      let none = size-none (t x) (λ v _. nothing-outside n t shaped x (omega arith) v) in
-      let no : ltb (sizeOf (kept x row t x)) (sizeOf (t x)) ≡ false = le-ltb _ _ (omega arith) in
-      ap (λ (q : Bool). q && (eqb z x && ltb x 256)) no ∙ sym (ap (λ y. smaller t (kept x row t) y) e ∙ no))
-      (cases-lt x 256))
+    (λ low. ap (λ (q : Bool). ltb (sizeOf (kept x row t x)) (sizeOf (t x)) && q) (ap₂ (λ (p q : Bool). p && q) (eq-eqb z x e) (lt-ltb x 256 low)) ∙ and-true _ ∙ ap (λ y. smaller t (kept x row t) y) (sym e))
+    (λ high.
+    let none = size-none (t x) (λ v _. nothing-outside n t shaped x (omega arith) v) in
+    let no : ltb (sizeOf (kept x row t x)) (sizeOf (t x)) ≡ false = le-ltb _ _ (omega arith) in
+    ap (λ (q : Bool). q && (eqb z x && ltb x 256)) no ∙ sym (ap (λ y. smaller t (kept x row t) y) e ∙ no))
+    (cases-lt x 256))
     (λ ne.
     let same : sizeOf (kept x row t z) ≡ sizeOf (t z) = ap sizeOf (fun-ext (λ v. kept-beside x row t z v ne)) in
     let no : smaller t (kept x row t) z ≡ false = le-ltb _ _ (omega arith) in
     and-right _ _ (ap (λ (q : Bool). q && ltb x 256) (ne-eqb z x ne)) ∙ sym no)
     (cases-eq z x)
   where
-  and-true : (b : Bool) → (b && true) ≡ b
-  and-true true = refl
-  and-true false = refl
+    and-true : (b : Bool) → (b && true) ≡ b
+    and-true true = refl
+    and-true false = refl
 
 -- the world after an order that left its variable a value
 pub stirs-world : (n x : ℕ) (row : List ℕ) (t t′ : Table) (rules : List Rule) (agenda agenda′ : List ℕ) (s s′ : ℕ) (v v′ : List Table) (c : Standing) (k : Kept) → n ≤ 256 → Shaped n t → t′ ≡ kept x row t → k ≡ answerKeep (t x) (t′ x) → k .empty ≡ false → agenda′ ≡ joined agenda (woken rules (λ z. k .smaller && (eqb z x && ltb x 256))) → s′ ≡ s → v′ ≡ v

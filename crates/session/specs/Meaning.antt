@@ -1,10 +1,10 @@
 -- What a session means, with the store that it works on.
 use mathlib.Core.Path.{_≡_}
 use mathlib.Core.Bool.{Bool, cond, not}
-use mathlib.Core.List.{List, [], _∷_}
-use Prim.Native.Nat.{ℕ}
+use mathlib.Core.List.{List, [], _∷_, _++_}
+use Prim.Native.Nat.{ℕ, zero, suc}
 use lib.Dec.{eqb, ltb}
-use lib.ListN.{length}
+use lib.ListN.{length, getD}
 use Rattle.std.specs.declared.option.Option.{Option}
 use Rattle.std.specs.declared.option.Option.the-variants.{Some, None}
 use Rattle.tables.specs.Tables.{Table, sizeOf, kept}
@@ -14,11 +14,13 @@ use Rattle.sessions.specs.declared.standing.Standing.the-variants as standing
 use Rattle.sessions.specs.declared.fault.SessionFault.{SessionFault}
 use Rattle.sessions.specs.declared.fault.SessionFault.the-variants as fault
 use Rattle.sessions.specs.declared.call.Call.{Call}
+use Rattle.sessions.specs.declared.call.Call.the-variants.{Settle}
 use Rattle.sessions.specs.declared.answer.Answer.{Answer}
+use Rattle.sessions.specs.declared.answer.Answer.the-variants.{Done}
 use Rattle.sessions.specs.Agendas.{upto}
 use Rattle.sessions.specs.Worlds.{World, isFailed, when, refusal, refusedStart, aimed, ordered}
 use Rattle.sessions.specs.Steps.{Step, woke, brokenBy}
-use Rattle.sessions.specs.Histories.{History, Lived}
+use Rattle.sessions.specs.Histories.{History, Event, Lived}
 use Rattle.sessions.specs.Promises.{Kept, Stuck, Throughout}
 use Rattle.agenda.specs.Meaning.{waits}
 use Rattle.session.specs.declared.state.Session.{Session}
@@ -54,3 +56,12 @@ afterOrder rules x t w = cond (eqb (sizeOf (t x)) 0) (brokenBy t w) (record { st
 pub record Begins (f : Frame) (rules : List Rule) (t : Table) (saved : List Table) (w : World) : Type 0 where
   pub accepted : refusedStart (f .vars) rules t ≡ None → Throughout (f .vars) (f .most) rules t saved [] w
   pub refused : (e : SessionFault) → refusedStart (f .vars) rules t ≡ Some e → Stuck (f .vars) (f .most) rules w
+
+-- the first k calls of a list with their answers, the newest first
+abbrev pub events : List Call → List Answer → ℕ → History
+events calls answers zero = []
+events calls answers (suc k) = record { call = getD calls k Settle; answer = getD answers k Done } ∷ events calls answers k
+
+-- every history that led to the world before a list of calls goes on by it, and keeps the promises all along
+abbrev pub KeepsAlong : Frame → List Rule → History → World → World → Type 0
+KeepsAlong f rules k w w′ = (start : Table) (base : List Table) (h : History) → Lived (f .vars) (f .most) rules start base h w → Throughout (f .vars) (f .most) rules start base (k ++ h) w′

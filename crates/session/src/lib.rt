@@ -2,9 +2,9 @@
 ghost use mathlib.Core.Path.{_≡_};
 ghost use mathlib.Core.Bool.{true, false, cond, not, _&&_};
 ghost use mathlib.Core.List.{List, []};
-ghost use Prim.Native.Nat.{ℕ, _+_, _≤_, _<_};
+ghost use Prim.Native.Nat.{ℕ, min, _≤_};
 ghost use lib.Dec.{eqb, ltb};
-ghost use lib.ListN.{length};
+ghost use lib.ListN.{length, drop};
 ghost use lib.Signed.{leZ};
 ghost use Rattle.std.specs.Results.{Cases, isOk};
 ghost use Rattle.std.specs.declared.option.Option.{Option};
@@ -17,14 +17,14 @@ ghost use Rattle.sessions.specs.declared.call.Call.the-variants.{Strike, Narrow
 ghost use Rattle.sessions.specs.declared.fault.SessionFault.the-variants as fault;
 ghost use Rattle.sessions.specs.Worlds.{isFailed, when, refusal, unfit, refusedStart};
 ghost use Rattle.sessions.specs.Steps.{values, settled, Settles, savedBy, restoredBy};
-ghost use Rattle.sessions.specs.Promises.{Stuck};
+ghost use Rattle.sessions.specs.Histories.{granted, Leads};
 ghost use Rattle.agenda.specs.Meaning.{waits};
 ghost use Rattle.session.specs.declared.outcome.Ordered.the-variants.{Done, Emptied};
 ghost use Rattle.sessions.specs.declared.standing.Standing.the-variants.{Failed};
 ghost use Rattle.sessions.specs.Agendas.{joined};
 ghost use Rattle.rules.specs.Banks.{inSet, woken};
 ghost use Rattle.session.specs.Answers.{ofOrder, ofSettle, ofPlain, runsOf, endOf, verdict, orRest};
-ghost use Rattle.session.specs.Meaning.{world, Steps, Keeps, IsOrder, beginning, afterOrder, Begins};
+ghost use Rattle.session.specs.Meaning.{world, Steps, Keeps, KeepsAlong, IsOrder, beginning, afterOrder, Begins, events};
 
 mod ended;
 pub mod outcome;
@@ -38,6 +38,8 @@ use rules::Bank;
 use rules::Ran;
 use rules::sets;
 use rules::sets::Set;
+use sessions::Answer;
+use sessions::Call;
 use sessions::SessionFault;
 use sessions::SessionFaultFromStore;
 use sessions::Standing;
@@ -72,6 +74,36 @@ fn is_range(lo: i32, hi: i32) -> bool
     ensures { λ r. ⌜ r ≡ (isValue lo && (isValue hi && leZ lo hi)) ⌝ }
 {
     is_value(lo) && is_value(hi) && lo <= hi
+}
+
+// The answers of the calls as answers of a history.
+fn of_order(r: Result<Ordered, SessionFault>) -> Answer
+    ensures { λ a. ⌜ a ≡ ofOrder r ⌝ }
+{
+    match r {
+        Ok(Ordered::Done) => Answer::Done,
+        Ok(Ordered::Emptied) => Answer::Emptied,
+        Err(fault) => Answer::Refused(fault),
+    }
+}
+
+fn of_settle(r: Result<Propagated, SessionFault>) -> Answer
+    ensures { λ a. ⌜ a ≡ ofSettle r ⌝ }
+{
+    match r {
+        Ok(Propagated::Settled { runs, removed }) => Answer::Settled { runs, removed },
+        Ok(Propagated::Failed { rule, runs }) => Answer::Failed { rule, runs },
+        Err(fault) => Answer::Refused(fault),
+    }
+}
+
+fn of_plain(r: Result<(), SessionFault>) -> Answer
+    ensures { λ a. ⌜ a ≡ ofPlain r ⌝ }
+{
+    match r {
+        Ok(()) => Answer::Done,
+        Err(fault) => Answer::Refused(fault),
+    }
 }
 
 // How many values the variables of a store have.
@@ -366,11 +398,7 @@ impl Session {
     }
 
     // Saves the table of a session that stands settled.
-    pub fn save<S: Levels, B: Bank>(
-        &mut self,
-        store: &mut S,
-        bank: &B,
-    ) -> Result<(), SessionFault>
+    pub fn save<S: Levels, B: Bank>(&mut self, store: &mut S, bank: &B) -> Result<(), SessionFault>
         ensures step { λ r. ⌜ Steps (S·Domains .frame (now (store .entry))) (B·Bank .rules (now (bank .entry))) Save (ofPlain r) (world (now (self .entry)) (S·Domains .table (now (store .entry))) (S·Domains .saved (now (store .entry)))) (world (now (self .exit)) (S·Domains .table (now (store .exit))) (S·Domains .saved (now (store .exit)))) ⌝ }
         ensures promises { λ r. ⌜ Keeps (S·Domains .frame (now (store .entry))) (B·Bank .rules (now (bank .entry))) Save (ofPlain r) (world (now (self .entry)) (S·Domains .table (now (store .entry))) (S·Domains .saved (now (store .entry)))) (world (now (self .exit)) (S·Domains .table (now (store .exit))) (S·Domains .saved (now (store .exit)))) ⌝ }
         ensures refused { λ r. ⌜ Cases r (λ _. Unit {0}) (λ _. (now (self .exit) ≡ now (self .entry)) × (now (store .exit) ≡ now (store .entry))) ⌝ }
@@ -391,5 +419,52 @@ impl Session {
         ensures same_frame { λ _. ⌜ S·Domains .frame (now (store .exit)) ≡ S·Domains .frame (now (store .entry)) ⌝ }
     {
         self.try_restore(store)
+    }
+
+    // Makes the call that is named.
+    fn dispatch<S: Levels, B: Bank>(&mut self, store: &mut S, bank: &B, call: Call) -> Answer
+        ensures step { λ r. ⌜ Steps (S·Domains .frame (now (store .entry))) (B·Bank .rules (now (bank .entry))) call r (world (now (self .entry)) (S·Domains .table (now (store .entry))) (S·Domains .saved (now (store .entry)))) (world (now (self .exit)) (S·Domains .table (now (store .exit))) (S·Domains .saved (now (store .exit)))) ⌝ }
+        ensures refused { λ r. ⌜ (granted r ≡ false → (now (self .exit) ≡ now (self .entry)) × (now (store .exit) ≡ now (store .entry))) ⌝ }
+        ensures same_frame { λ _. ⌜ S·Domains .frame (now (store .exit)) ≡ S·Domains .frame (now (store .entry)) ⌝ }
+    {
+        match call {
+            Call::Strike { x, v } => of_order(self.strike(store, bank, x, v)),
+            Call::Narrow { x, lo, hi } => of_order(self.narrow(store, bank, x, lo, hi)),
+            Call::Settle => of_settle(self.settle(store, bank)),
+            Call::Save => of_plain(self.save(store, bank)),
+            Call::Restore => of_plain(self.restore(store, bank)),
+        }
+    }
+
+    // One call, by its name.
+    pub fn answer<S: Levels, B: Bank>(&mut self, store: &mut S, bank: &B, call: Call) -> Answer
+        ensures step { λ r. ⌜ Steps (S·Domains .frame (now (store .entry))) (B·Bank .rules (now (bank .entry))) call r (world (now (self .entry)) (S·Domains .table (now (store .entry))) (S·Domains .saved (now (store .entry)))) (world (now (self .exit)) (S·Domains .table (now (store .exit))) (S·Domains .saved (now (store .exit)))) ⌝ }
+        ensures promises { λ r. ⌜ Keeps (S·Domains .frame (now (store .entry))) (B·Bank .rules (now (bank .entry))) call r (world (now (self .entry)) (S·Domains .table (now (store .entry))) (S·Domains .saved (now (store .entry)))) (world (now (self .exit)) (S·Domains .table (now (store .exit))) (S·Domains .saved (now (store .exit)))) ⌝ }
+        ensures refused { λ r. ⌜ (granted r ≡ false → (now (self .exit) ≡ now (self .entry)) × (now (store .exit) ≡ now (store .entry))) ⌝ }
+        ensures same_frame { λ _. ⌜ S·Domains .frame (now (store .exit)) ≡ S·Domains .frame (now (store .entry)) ⌝ }
+    {
+        self.dispatch(store, bank, call)
+    }
+
+    // Plays a list of calls and writes the answers, as many as both lists have room for; says how many.
+    pub fn play<S: Levels, B: Bank>(
+        &mut self,
+        store: &mut S,
+        bank: &B,
+        calls: &[Call],
+        answers: &mut [Answer],
+    ) -> usize
+        ensures count { λ r. ⌜ r ≡ min (length (now (calls .entry))) (length (now (answers .entry))) ⌝ }
+        ensures steps { λ r. ⌜ Leads (S·Domains .frame (now (store .entry)) .vars) (S·Domains .frame (now (store .entry)) .most) (B·Bank .rules (now (bank .entry))) (world (now (self .entry)) (S·Domains .table (now (store .entry))) (S·Domains .saved (now (store .entry)))) (events (now (calls .entry)) (now (answers .exit)) r) (world (now (self .exit)) (S·Domains .table (now (store .exit))) (S·Domains .saved (now (store .exit)))) ⌝ }
+        ensures promises { λ r. ⌜ KeepsAlong (S·Domains .frame (now (store .entry))) (B·Bank .rules (now (bank .entry))) (events (now (calls .entry)) (now (answers .exit)) r) (world (now (self .entry)) (S·Domains .table (now (store .entry))) (S·Domains .saved (now (store .entry)))) (world (now (self .exit)) (S·Domains .table (now (store .exit))) (S·Domains .saved (now (store .exit)))) ⌝ }
+        ensures rest { λ r. ⌜ (length (now (answers .exit)) ≡ length (now (answers .entry))) × (drop r (now (answers .exit)) ≡ drop r (now (answers .entry))) ⌝ }
+        ensures same_frame { λ _. ⌜ S·Domains .frame (now (store .exit)) ≡ S·Domains .frame (now (store .entry)) ⌝ }
+    {
+        let count = calls.len().min(answers.len());
+        for k in 0..count {
+            let answer = self.answer(store, bank, calls[k]);
+            answers[k] = answer;
+        }
+        count
     }
 }

@@ -75,14 +75,14 @@ module _ (n : ℕ) (rules : List Rule) (fair : Fair n rules) where
       let i = alone-inside n b a (obeys .0) in
       let inn = alone-in n a (obeys .0 .0) in
       let s : Shaped n (alone n a) = λ x v h. sb x v (i x v h) in
-      record
-      { shaped = s
-      ; full = in-full n (alone n a) a s inn
-      ; inside = i
-      ; unshrunk = λ k l.
-          let law = fair .laws k l in
-          let obeyed = subst (λ (r : Rule). r .obeyed a ≡ true) (sym (called-at rules (fair .short) k)) (each-obeyed rules a (obeys .1) k l) in
-          (law .shrinks (alone n a) s, inr (alone-inside n (called rules k .filter (alone n a)) a (law .sound (alone n a) s a inn obeyed)))
+      record {
+        shaped = s;
+        full = in-full n (alone n a) a s inn;
+        inside = i;
+        unshrunk = λ k l.
+            let law = fair .laws k l in
+            let obeyed = subst (λ (r : Rule). r .obeyed a ≡ true) (sym (called-at rules (fair .short) k)) (each-obeyed rules a (obeys .1) k l) in
+            (law .shrinks (alone n a) s, inr (alone-inside n (called rules k .filter (alone n a)) a (law .sound (alone n a) s a inn obeyed)));
       }
 
   -- so it lies in every table that all stable ones lie inside

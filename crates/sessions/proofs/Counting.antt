@@ -74,9 +74,9 @@ unfolding number sum
 number-sum zero x t p = refl
 number-sum (suc k) x t p = total-ext _ _ 1024 (λ q l. each (valueAt q) (t x (valueAt q)) (number-sum k (suc x) t (λ a. p (valueAt q ∷ a))))
   where
-  each : (v : ℤ) (b : Bool) → number k (suc x) t (λ a. p (v ∷ a)) ≡ sum k (λ a. inFrom (suc x) t a && p (v ∷ a)) → cond b (number k (suc x) t (λ a. p (v ∷ a))) 0 ≡ sum k (λ a. (b && inFrom (suc x) t a) && p (v ∷ a))
-  each v true e = e
-  each v false e = sym (sum-none k (λ a. false) (λ a e. refl))
+    each : (v : ℤ) (b : Bool) → number k (suc x) t (λ a. p (v ∷ a)) ≡ sum k (λ a. inFrom (suc x) t a && p (v ∷ a)) → cond b (number k (suc x) t (λ a. p (v ∷ a))) 0 ≡ sum k (λ a. (b && inFrom (suc x) t a) && p (v ∷ a))
+    each v true e = e
+    each v false e = sym (sum-none k (λ a. false) (λ a e. refl))
 
 -- the same assignments, as many of them
 pub number-same : (k x : ℕ) (t u : Table) (p : Assignment → Bool) → ((a : Assignment) → length a ≡ k → (inFrom x t a && p a) ≡ (inFrom x u a && p a)) → number k x t p ≡ number k x u p
@@ -95,6 +95,6 @@ number-one (suc k) x t p single f =
     ∙ total-count (λ q. t x (valueAt q)) 1024
     ∙ single x (omega arith) (omega arith)
   where
-  each : (v : ℤ) (b : Bool) → (b ≡ true → number k (suc x) t (λ a. p (v ∷ a)) ≡ 1) → cond b (number k (suc x) t (λ a. p (v ∷ a))) 0 ≡ cond b 1 0
-  each v true e = e refl
-  each v false e = refl
+    each : (v : ℤ) (b : Bool) → (b ≡ true → number k (suc x) t (λ a. p (v ∷ a)) ≡ 1) → cond b (number k (suc x) t (λ a. p (v ∷ a))) 0 ≡ cond b 1 0
+    each v true e = e refl
+    each v false e = refl

@@ -28,10 +28,10 @@ pub not-smaller : (n : ℕ) (u t : Table) → Shaped n t → Inside u t → (x :
 not-smaller n u t s i x h =
     fun-ext (λ v. either v (u x v) (t x v) (i x v) (same-size (u x) (t x) (i x) (λ v q. s x v q .1) (ltb-false _ _ h) v))
   where
-  either : (v : ℤ) (a b : Bool) → (a ≡ true → b ≡ true) → (b ≡ true → a ≡ true) → a ≡ b
-  either v true b f g = sym (f refl)
-  either v false true f g = g refl
-  either v false false f g = refl
+    either : (v : ℤ) (a b : Bool) → (a ≡ true → b ≡ true) → (b ≡ true → a ≡ true) → a ≡ b
+    either v true b f g = sym (f refl)
+    either v false true f g = g refl
+    either v false false f g = refl
 
 -- a rule that is not woken sees the same watched domains
 pub unwoken-agree : (n : ℕ) (rules : List Rule) (u t : Table) → n ≤ 256 → Shaped n t → Inside u t → (j : ℕ) → woken rules (smaller t u) j ≡ false → Agree (called rules j) t u

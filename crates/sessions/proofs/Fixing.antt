@@ -92,9 +92,9 @@ module _ (n most : ℕ) (rules : List Rule) (w : World) where
       let s = settles-only full other run in
       (ap₂ (λ (a b : ℕ). Failed a b) (ap at (s .1)) (s .0), subst (λ (z : World). Alike z (brokenBy t w)) (sym is) (record { standing = refl; agenda = refl; saves = refl; saved = refl; table = λ e. absurd (both-ways true e refl) }))
     where
-    at : Outcome → ℕ
-    at settled = 0
-    at (failed j) = j
+      at : Outcome → ℕ
+      at settled = 0
+      at (failed j) = j
 
   saves-only : {v : World} {b : Answer} → refusal n most w Save ≡ None → Step n most rules w v Save b → (b ≡ Done) × (v ≡ savedBy w)
   saves-only r (refused q is) = absurd (some-none (sym q ∙ r))

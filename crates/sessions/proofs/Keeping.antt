@@ -78,21 +78,21 @@ module _ (n : ℕ) (rules : List Rule) (few : n ≤ 256) (law : Lawfully rules) 
       let fair = l .0 in
       let s = l .1 in
       let b : Table = bounds start h in
-      record
-      { rests = s .calm
-      ; greatest = is-greatest most start base h w lived
-      ; none = s .broken
-      ; same = λ e. not-lost n rules fair b (w .table) (l .2) (s .holds e .most)
-      ; back = λ e a o. ((o .0 .0, λ x k. s .holds e .inside x (at a x) (o .0 .1 x k)), o .1)
-      ; many = λ e. same-number n rules fair b (w .table) (l .2) (s .holds e .inside) (s .holds e .most)
-      ; lost = λ e. none-obeys n rules fair b (l .2) (s .broken e)
-      ; zero = λ e. no-number n rules fair b (l .2) (s .broken e)
-      ; one = λ e single.
-          let holding = s .holds (settled-stands (w .standing) e) in
-          same-number n rules fair b (w .table) (l .2) (holding .inside) (holding .most) ∙ one-number n rules fair b (w .table) (is-greatest most start base h w lived e .stable) single
-      ; road = λ e most′ base′ h′ w′ lived′ e′ same. same-road start most base h w most′ base′ h′ w′ lived e lived′ e′ same
-      ; waiting = s .waiting
-      ; own = let c = s .counted in let m = noted-length start (orders h .notes) (w .saved) (s .noted) in omega arith
+      record {
+        rests = s .calm;
+        greatest = is-greatest most start base h w lived;
+        none = s .broken;
+        same = λ e. not-lost n rules fair b (w .table) (l .2) (s .holds e .most);
+        back = λ e a o. ((o .0 .0, λ x k. s .holds e .inside x (at a x) (o .0 .1 x k)), o .1);
+        many = λ e. same-number n rules fair b (w .table) (l .2) (s .holds e .inside) (s .holds e .most);
+        lost = λ e. none-obeys n rules fair b (l .2) (s .broken e);
+        zero = λ e. no-number n rules fair b (l .2) (s .broken e);
+        one = λ e single.
+            let holding = s .holds (settled-stands (w .standing) e) in
+            same-number n rules fair b (w .table) (l .2) (holding .inside) (holding .most) ∙ one-number n rules fair b (w .table) (is-greatest most start base h w lived e .stable) single;
+        road = λ e most′ base′ h′ w′ lived′ e′ same. same-road start most base h w most′ base′ h′ w′ lived e lived′ e′ same;
+        waiting = s .waiting;
+        own = let c = s .counted in let m = noted-length start (orders h .notes) (w .saved) (s .noted) in omega arith;
       }
 
   work : (most : ℕ) (w w′ : World) (c : Call) (a : Answer) → Fair n rules → Shaped n (w .table) → Step n most rules w w′ c a → Bounded n rules w a w′
@@ -109,11 +109,11 @@ module _ (n : ℕ) (rules : List Rule) (few : n ≤ 256) (law : Lawfully rules) 
   keeps most start base h w w′ c a step lived =
       let l = living most start base h w lived in
       let more = stepped lived step in
-      record
-      { lived = more
-      ; promises = keeps-promises most start base _ w′ more
-      ; bounded = work most w w′ c a (l .0) (l .1 .shaped) step
-      ; only = step-only n most rules w (λ e. l .1 .holds e .full) step
+      record {
+        lived = more;
+        promises = keeps-promises most start base _ w′ more;
+        bounded = work most w w′ c a (l .0) (l .1 .shaped) step;
+        only = step-only n most rules w (λ e. l .1 .holds e .full) step;
       }
 
   -- all that a history went through

@@ -1,7 +1,7 @@
 -- What holds after every history, by induction on it.
 use mathlib.Core.Path.{_≡_, refl, sym, ap, subst, _∙_}
 use mathlib.Core.Bool.{Bool, true, false, cond, not, _&&_, _||_}
-use mathlib.Core.List.{List, [], _∷_}
+use mathlib.Core.List.{List, [], _∷_, _++_}
 use mathlib.Core.Logic.{_⊎_, inl, inr, ⊎-elim}
 use Prim.Native.Nat.{ℕ, zero, suc, _+_, _-_, _≤_, _<_}
 use native.Mathlib.Omega.{arith}
@@ -23,7 +23,7 @@ use Rattle.sessions.specs.declared.fault.SessionFault.{SessionFault}
 use Rattle.sessions.specs.Agendas.{member, upto}
 use Rattle.sessions.specs.Worlds.{World, isFailed, isStirred, isNone, refusal, refusedStart, aimed, ordered}
 use Rattle.sessions.specs.Steps.{values, smaller, woke, settled, failed, Settles, stirredBy, brokenBy, settledBy, savedBy, restoredBy, Step, refused, stirs, empties, settles, breaks, saves, restores}
-use Rattle.sessions.specs.Histories.{History, Event, Begun, Lived, begun, stepped, granted, Orders, putBack, heeded, orders, under, bounds, isSettled, rests, rested, everSettled, aims, touched}
+use Rattle.sessions.specs.Histories.{History, Event, Begun, Lived, begun, stepped, Leads, stays, goes, granted, Orders, putBack, heeded, orders, under, bounds, isSettled, rests, rested, everSettled, aims, touched}
 use Rattle.sessions.specs.Promises.{NoStable, Greatest, Waiting}
 use Rattle.sessions.proofs.Waits.{joined-from, joined-none, upto-all, upto-below}
 use Rattle.sessions.proofs.Settling.{Fair, Low, Holding, woken-low, woke-low, settling, settles-inside, holding-greatest, greatest-holding}
@@ -98,37 +98,37 @@ module _ (n most : ℕ) (rules : List Rule) (fair : Fair n rules) (start : Table
   -- ---- each way a call can go
 
   sound-begun : (base : List Table) → Shaped n start → isVoid n start ≡ false → Sound n rules start [] (record { standing = standing.Stirred; agenda = upto (length rules); saves = 0; table = start; saved = base })
-  sound-begun base s full = record
-      { shaped = s
-      ; low = λ i h. upto-below (length rules) i h
-      ; holds = λ _. record { full = full; inside = λ x v h. h; most = λ u stable. stable .inside; fixed = λ i l out. absurd (both-ways _ out (upto-all (length rules) i l)) }
-      ; broken = λ e. absurd (both-ways false refl (ap isFailed e))
-      ; idle = λ e. absurd (stirred-not e)
-      ; young = λ _. (refl, stirred-not)
-      ; counted = refl
-      ; noted = tt
-      ; calm = λ e. absurd (both-ways false refl e)
-      ; waiting = record { all = λ _ _. refl; since = λ i e. absurd (both-ways false refl e) }
-      }
+  sound-begun base s full = record {
+    shaped = s;
+    low = λ i h. upto-below (length rules) i h;
+    holds = λ _. record { full = full; inside = λ x v h. h; most = λ u stable. stable .inside; fixed = λ i l out. absurd (both-ways _ out (upto-all (length rules) i l)) };
+    broken = λ e. absurd (both-ways false refl (ap isFailed e));
+    idle = λ e. absurd (stirred-not e);
+    young = λ _. (refl, stirred-not);
+    counted = refl;
+    noted = tt;
+    calm = λ e. absurd (both-ways false refl e);
+    waiting = record { all = λ _ _. refl; since = λ i e. absurd (both-ways false refl e) };
+  }
 
   sound-refused : (h : History) (w : World) (c : Call) (f : SessionFault) → Sound n rules start h w → Sound n rules start (record { call = c; answer = Refused f } ∷ h) w
-  sound-refused h w c f s = record
-      { shaped = s .shaped
-      ; low = s .low
-      ; holds = s .holds
-      ; broken = s .broken
-      ; idle = s .idle
-      ; young = s .young
-      ; counted = s .counted
-      ; noted = s .noted
-      ; calm = λ e. absurd (both-ways (rests c (Refused f)) (rests-refused c f) e)
-      ; waiting = record
-          { all = s .waiting .all
-          ; since = λ i e m.
-              let q = s .waiting .since i e m in
-              (q .0, ap (λ (b : Bool). not b && touched h (q .0)) (rests-refused c f) ∙ q .1, q .2)
-          }
-      }
+  sound-refused h w c f s = record {
+    shaped = s .shaped;
+    low = s .low;
+    holds = s .holds;
+    broken = s .broken;
+    idle = s .idle;
+    young = s .young;
+    counted = s .counted;
+    noted = s .noted;
+    calm = λ e. absurd (both-ways (rests c (Refused f)) (rests-refused c f) e);
+    waiting = record {
+      all = s .waiting .all;
+      since = λ i e m.
+          let q = s .waiting .since i e m in
+          (q .0, ap (λ (b : Bool). not b && touched h (q .0)) (rests-refused c f) ∙ q .1, q .2);
+    };
+  }
 
   -- what an order leaves to say of who waits
   waits-order : (h : History) (w : World) (c : Call) (x : ℕ) (a : Answer) → aimed c ≡ Some x → granted a ≡ true → Sound n rules start h w → (i : ℕ) → everSettled h ≡ true → member i (woke rules (w .table) (ordered c (w .table)) (w .agenda)) ≡ true → (z : ℕ) × (touched (record { call = c; answer = a } ∷ h) z ≡ true) × (called rules i .watches z ≡ true)
@@ -141,92 +141,92 @@ module _ (n most : ℕ) (rules : List Rule) (fair : Fair n rules) (start : Table
       (q .0, told (q .0) (or-left (granted a && aims c (q .0)) _ (ap (λ (b : Bool). b && aims c (q .0)) g ∙ subst (λ z. aims c z ≡ true) (sym at) (aims-aimed c x e))), q .2))
       (joined-from (w .agenda) (woken rules (smaller (w .table) (ordered c (w .table)))) i m)
     where
-    told : (z : ℕ) → ((granted a && aims c z) || touched h z) ≡ true → touched (record { call = c; answer = a } ∷ h) z ≡ true
-    told z q = ap (λ (b : Bool). not b && ((granted a && aims c z) || touched h z)) (rests-order c x a e) ∙ q
+      told : (z : ℕ) → ((granted a && aims c z) || touched h z) ≡ true → touched (record { call = c; answer = a } ∷ h) z ≡ true
+      told z q = ap (λ (b : Bool). not b && ((granted a && aims c z) || touched h z)) (rests-order c x a e) ∙ q
 
   sound-stirs : (h : History) (w : World) (c : Call) (x : ℕ) → aimed c ≡ Some x → refusal n most w c ≡ None → eqb (sizeOf (ordered c (w .table) x)) 0 ≡ false → Sound n rules start h w → Sound n rules start (record { call = c; answer = Done } ∷ h) (stirredBy rules c w)
   sound-stirs h w c x e r some s =
       let go = order-granted n most w c x e r in
       let o = orders-order c x (orders h) e in
-      record
-      { shaped = inside-shaped n _ _ (ordered-inside c (w .table)) (s .shaped)
-      ; low = woke-low n rules fair (w .table) (ordered c (w .table)) (w .agenda) (s .low)
-      ; holds = λ _. subst (λ (q : Orders). Holding n rules (under (q .force) start) (woke rules (w .table) (ordered c (w .table)) (w .agenda)) (ordered c (w .table))) (sym o) (order-holds n rules fair c x e (bounds start h) (w .table) (w .agenda) (s .shaped) (s .holds (go .0)) some)
-      ; broken = λ q. absurd (both-ways false refl (ap isFailed q))
-      ; idle = λ q. absurd (stirred-not q)
-      ; young = λ q. (s .young q .0, stirred-not)
-      ; counted = s .counted ∙ ap (λ (q : Orders). length (q .notes)) (sym o)
-      ; noted = subst (λ (q : Orders). Noted n rules start (q .notes) (w .saved)) (sym o) (s .noted)
-      ; calm = λ q. absurd (both-ways (rests c Done) (rests-order c x Done e) q)
-      ; waiting = record
-          { all = λ _ q. let was = s .waiting .all (go .0) q in
-              joined-none (w .agenda) (woken rules (smaller (w .table) (ordered c (w .table)))) (λ k woke. subst (λ (l : List ℕ). member k l ≡ true) (sym was) (upto-all (length rules) k (woken-low n rules fair (smaller (w .table) (ordered c (w .table))) k woke))) ∙ was
-          ; since = λ i ever m. waits-order h w c x Done e refl s i ever m
-          }
+      record {
+        shaped = inside-shaped n _ _ (ordered-inside c (w .table)) (s .shaped);
+        low = woke-low n rules fair (w .table) (ordered c (w .table)) (w .agenda) (s .low);
+        holds = λ _. subst (λ (q : Orders). Holding n rules (under (q .force) start) (woke rules (w .table) (ordered c (w .table)) (w .agenda)) (ordered c (w .table))) (sym o) (order-holds n rules fair c x e (bounds start h) (w .table) (w .agenda) (s .shaped) (s .holds (go .0)) some);
+        broken = λ q. absurd (both-ways false refl (ap isFailed q));
+        idle = λ q. absurd (stirred-not q);
+        young = λ q. (s .young q .0, stirred-not);
+        counted = s .counted ∙ ap (λ (q : Orders). length (q .notes)) (sym o);
+        noted = subst (λ (q : Orders). Noted n rules start (q .notes) (w .saved)) (sym o) (s .noted);
+        calm = λ q. absurd (both-ways (rests c Done) (rests-order c x Done e) q);
+        waiting = record {
+          all = λ _ q. let was = s .waiting .all (go .0) q in
+              joined-none (w .agenda) (woken rules (smaller (w .table) (ordered c (w .table)))) (λ k woke. subst (λ (l : List ℕ). member k l ≡ true) (sym was) (upto-all (length rules) k (woken-low n rules fair (smaller (w .table) (ordered c (w .table))) k woke))) ∙ was;
+          since = λ i ever m. waits-order h w c x Done e refl s i ever m;
+        };
       }
 
   sound-empties : (h : History) (w : World) (c : Call) (x : ℕ) → aimed c ≡ Some x → refusal n most w c ≡ None → eqb (sizeOf (ordered c (w .table) x)) 0 ≡ true → Sound n rules start h w → Sound n rules start (record { call = c; answer = Emptied } ∷ h) (brokenBy (ordered c (w .table)) w)
   sound-empties h w c x e r none s =
       let go = order-granted n most w c x e r in
       let o = orders-order c x (orders h) e in
-      record
-      { shaped = inside-shaped n _ _ (ordered-inside c (w .table)) (s .shaped)
-      ; low = λ i m. absurd (none-waits i m)
-      ; holds = λ q. absurd (both-ways true q refl)
-      ; broken = λ _. subst (λ (q : Orders). NoStable n rules (under (q .force) start)) (sym o) (order-empties n rules fair c x (go .1) (bounds start h) (w .table) (w .agenda) (s .holds (go .0)) none)
-      ; idle = λ _. refl
-      ; young = λ q. (s .young q .0, failed-not)
-      ; counted = s .counted ∙ ap (λ (q : Orders). length (q .notes)) (sym o)
-      ; noted = subst (λ (q : Orders). Noted n rules start (q .notes) (w .saved)) (sym o) (s .noted)
-      ; calm = λ q. absurd (both-ways (rests c Emptied) (rests-order c x Emptied e) q)
-      ; waiting = record { all = λ q. absurd (both-ways true q refl); since = λ i ever m. absurd (none-waits i m) }
+      record {
+        shaped = inside-shaped n _ _ (ordered-inside c (w .table)) (s .shaped);
+        low = λ i m. absurd (none-waits i m);
+        holds = λ q. absurd (both-ways true q refl);
+        broken = λ _. subst (λ (q : Orders). NoStable n rules (under (q .force) start)) (sym o) (order-empties n rules fair c x (go .1) (bounds start h) (w .table) (w .agenda) (s .holds (go .0)) none);
+        idle = λ _. refl;
+        young = λ q. (s .young q .0, failed-not);
+        counted = s .counted ∙ ap (λ (q : Orders). length (q .notes)) (sym o);
+        noted = subst (λ (q : Orders). Noted n rules start (q .notes) (w .saved)) (sym o) (s .noted);
+        calm = λ q. absurd (both-ways (rests c Emptied) (rests-order c x Emptied e) q);
+        waiting = record { all = λ q. absurd (both-ways true q refl); since = λ i ever m. absurd (none-waits i m) };
       }
 
   sound-settles : (h : History) (w : World) (t : Table) (k m : ℕ) → refusal n most w Settle ≡ None → Settles n rules (w .agenda) (w .table) k settled t → Sound n rules start h w → Sound n rules start (record { call = Settle; answer = Settled k m } ∷ h) (settledBy t w)
   sound-settles h w t k m r run s =
       let ends = settling n rules fair (bounds start h) run (s .low) (s .shaped) (s .holds (settle-granted n most w r)) in
-      record
-      { shaped = ends .0
-      ; low = λ i q. absurd (none-waits i q)
-      ; holds = λ _. ends .1
-      ; broken = λ q. absurd (both-ways false refl (ap isFailed q))
-      ; idle = λ _. refl
-      ; young = λ q. absurd (both-ways true q refl)
-      ; counted = s .counted
-      ; noted = s .noted
-      ; calm = λ _. refl
-      ; waiting = record { all = λ _ q. absurd (both-ways true q refl); since = λ i ever q. absurd (none-waits i q) }
+      record {
+        shaped = ends .0;
+        low = λ i q. absurd (none-waits i q);
+        holds = λ _. ends .1;
+        broken = λ q. absurd (both-ways false refl (ap isFailed q));
+        idle = λ _. refl;
+        young = λ q. absurd (both-ways true q refl);
+        counted = s .counted;
+        noted = s .noted;
+        calm = λ _. refl;
+        waiting = record { all = λ _ q. absurd (both-ways true q refl); since = λ i ever q. absurd (none-waits i q) };
       }
 
   sound-breaks : (h : History) (w : World) (t : Table) (i k : ℕ) → refusal n most w Settle ≡ None → Settles n rules (w .agenda) (w .table) k (failed i) t → Shaped n t → Sound n rules start h w → Sound n rules start (record { call = Settle; answer = Failed i k } ∷ h) (brokenBy t w)
-  sound-breaks h w t i k r run st s = record
-      { shaped = st
-      ; low = λ i q. absurd (none-waits i q)
-      ; holds = λ q. absurd (both-ways true q refl)
-      ; broken = λ _. settling n rules fair (bounds start h) run (s .low) (s .shaped) (s .holds (settle-granted n most w r))
-      ; idle = λ _. refl
-      ; young = λ q. (s .young q .0, failed-not)
-      ; counted = s .counted
-      ; noted = s .noted
-      ; calm = λ q. absurd (both-ways false refl q)
-      ; waiting = record { all = λ q. absurd (both-ways true q refl); since = λ i ever q. absurd (none-waits i q) }
-      }
+  sound-breaks h w t i k r run st s = record {
+    shaped = st;
+    low = λ i q. absurd (none-waits i q);
+    holds = λ q. absurd (both-ways true q refl);
+    broken = λ _. settling n rules fair (bounds start h) run (s .low) (s .shaped) (s .holds (settle-granted n most w r));
+    idle = λ _. refl;
+    young = λ q. (s .young q .0, failed-not);
+    counted = s .counted;
+    noted = s .noted;
+    calm = λ q. absurd (both-ways false refl q);
+    waiting = record { all = λ q. absurd (both-ways true q refl); since = λ i ever q. absurd (none-waits i q) };
+  }
 
   sound-saves : (h : History) (w : World) → refusal n most w Save ≡ None → Sound n rules start h w → Sound n rules start (record { call = Save; answer = Done } ∷ h) (savedBy w)
   sound-saves h w r s =
       let is = save-granted n most w r in
       let holding = subst (λ (l : List ℕ). Holding n rules (bounds start h) l (w .table)) (s .idle is) (s .holds (settled-stands (w .standing) is)) in
-      record
-      { shaped = s .shaped
-      ; low = s .low
-      ; holds = s .holds
-      ; broken = s .broken
-      ; idle = s .idle
-      ; young = λ q. absurd (s .young q .1 is)
-      ; counted = let c = s .counted in omega arith
-      ; noted = (holding-greatest n rules fair (bounds start h) (w .table) (s .shaped) holding, s .noted)
-      ; calm = λ q. absurd (both-ways false refl q)
-      ; waiting = record { all = s .waiting .all; since = s .waiting .since }
+      record {
+        shaped = s .shaped;
+        low = s .low;
+        holds = s .holds;
+        broken = s .broken;
+        idle = s .idle;
+        young = λ q. absurd (s .young q .1 is);
+        counted = let c = s .counted in omega arith;
+        noted = (holding-greatest n rules fair (bounds start h) (w .table) (s .shaped) holding, s .noted);
+        calm = λ q. absurd (both-ways false refl q);
+        waiting = record { all = s .waiting .all; since = s .waiting .since };
       }
 
   -- the last note and its table
@@ -239,17 +239,17 @@ module _ (n most : ℕ) (rules : List Rule) (fair : Fair n rules) (start : Table
   sound-restores h w r s =
       let go = restore-granted n most w r in
       let b = back (orders h .force) (orders h .notes) (w .saves) (w .saved) (w .table) (go .0) (s .counted) (s .noted) in
-      record
-      { shaped = b .0 .stable .shaped
-      ; low = λ i q. absurd (none-waits i q)
-      ; holds = λ _. greatest-holding n rules fair (bounds start (record { call = Restore; answer = Done } ∷ h)) (newest (w .saved) (w .table)) (b .0)
-      ; broken = λ q. absurd (both-ways false refl (ap isFailed q))
-      ; idle = λ _. refl
-      ; young = λ q. absurd (go .0 (s .young q .0))
-      ; counted = b .1
-      ; noted = b .2
-      ; calm = λ _. refl
-      ; waiting = record { all = λ _ q. absurd (go .0 (s .young q .0)); since = λ i ever q. absurd (none-waits i q) }
+      record {
+        shaped = b .0 .stable .shaped;
+        low = λ i q. absurd (none-waits i q);
+        holds = λ _. greatest-holding n rules fair (bounds start (record { call = Restore; answer = Done } ∷ h)) (newest (w .saved) (w .table)) (b .0);
+        broken = λ q. absurd (both-ways false refl (ap isFailed q));
+        idle = λ _. refl;
+        young = λ q. absurd (go .0 (s .young q .0));
+        counted = b .1;
+        noted = b .2;
+        calm = λ _. refl;
+        waiting = record { all = λ _ q. absurd (go .0 (s .young q .0)); since = λ i ever q. absurd (none-waits i q) };
       }
 
   -- a step keeps what holds
@@ -270,3 +270,8 @@ module _ (n most : ℕ) (rules : List Rule) (fair : Fair n rules) (start : Table
 pub lived-begun : {n most : ℕ} {rules : List Rule} {start : Table} {base : List Table} {h : History} {w : World} → Lived n most rules start base h w → Shaped n start × (refusedStart n rules start ≡ None)
 lived-begun (begun b) = (b .shaped, b .accepted)
 lived-begun (stepped lived step) = lived-begun lived
+
+-- a lived history goes on by a list of calls
+pub leads-on : {n most : ℕ} {rules : List Rule} {start : Table} {base : List Table} {h : History} {w : World} {k : History} {v : World} → Lived n most rules start base h w → Leads n most rules w k v → Lived n most rules start base (k ++ h) v
+leads-on lived stays = lived
+leads-on lived (goes leads step) = stepped (leads-on lived leads) step

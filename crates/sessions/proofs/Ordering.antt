@@ -62,9 +62,9 @@ ordered-meets c u t b i j y w h = ordered-is c t y w ∙ and-from (t y w) _ (j y
 pub some-is : {a b : ℕ} → Some a ≡ Some b → a ≡ b
 some-is {a} {b} e = ap got e
   where
-  got : Option ℕ → ℕ
-  got (Some k) = k
-  got None = 0
+    got : Option ℕ → ℕ
+    got (Some k) = k
+    got None = 0
 
 -- other variables stay
 pub beside : (c : Call) (x : ℕ) → aimed c ≡ Some x → (t : Table) (y : ℕ) → (y ≡ x → ⊥) → ordered c t y ≡ t y
@@ -102,17 +102,17 @@ module _ (n : ℕ) (rules : List Rule) (fair : Fair n rules) where
   order-holds c x e b t agenda shaped holding some =
       let su = inside-shaped n (ordered c t) t (ordered-inside c t) shaped in
       let full : isVoid n (ordered c t) ≡ false =
-        full-from n (ordered c t) (λ y l. ⊎-elim
-        (λ (q : y ≡ x). subst (λ z. 0 < sizeOf (ordered c t z)) (sym q) (let no = eqb-false _ 0 some in omega arith))
-        (λ ne. subst (λ (d : Domain). 0 < sizeOf d) (sym (beside c x e t y ne)) (full-at n t (holding .full) y l))
-        (cases-eq y x)) in
-      record
-      { full = full
-      ; inside = ordered-mono c t b (holding .inside)
-      ; most = order-most c b t (holding .most)
-      ; fixed = λ j lj out.
-          let q = not-woke n rules fair t (ordered c t) shaped (ordered-inside c t) agenda j lj out in
-          still-fixed n (called rules j) (fair .laws j lj) t (ordered c t) shaped su (holding .full) full (holding .fixed j lj (q .0)) (q .1)
+      full-from n (ordered c t) (λ y l. ⊎-elim
+      (λ (q : y ≡ x). subst (λ z. 0 < sizeOf (ordered c t z)) (sym q) (let no = eqb-false _ 0 some in omega arith))
+      (λ ne. subst (λ (d : Domain). 0 < sizeOf d) (sym (beside c x e t y ne)) (full-at n t (holding .full) y l))
+      (cases-eq y x)) in
+      record {
+        full = full;
+        inside = ordered-mono c t b (holding .inside);
+        most = order-most c b t (holding .most);
+        fixed = λ j lj out.
+            let q = not-woke n rules fair t (ordered c t) shaped (ordered-inside c t) agenda j lj out in
+            still-fixed n (called rules j) (fair .laws j lj) t (ordered c t) shaped su (holding .full) full (holding .fixed j lj (q .0)) (q .1);
       }
 
   -- an order that left its variable none

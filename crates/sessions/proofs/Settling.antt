@@ -83,18 +83,20 @@ module _ (n : ℕ) (rules : List Rule) (fair : Fair n rules) where
       let exact = run .exact (holding .full) in
       let is : u ≡ called rules i .filter t = exact .1 ∙ filters i l t in
       let full : isVoid n u ≡ false = subst (λ (d : Table). isVoid n d ≡ false) (sym (exact .1)) (exact .0) in
-      let su = inside-shaped n u t (run .inside) shaped in
-      (su, record
-      { full = full
-      ; inside = λ x v h. holding .inside x v (run .inside x v h)
-      ; most = λ v stable. subst (λ (d : Table). Inside v d) (sym is) (survives b t shaped (holding .most) i l v stable .1)
-      ; fixed = λ j lj out.
-          let q = not-woke t u shaped (run .inside) rest j lj out in
-          ⊎-elim
-          (λ (e : j ≡ i). just-ran n (called rules j) (fair .laws j lj) t u shaped su (holding .full) full (subst (λ m. u ≡ called rules m .filter t) (sym e) is) (q .1))
-          (λ ne. still-fixed n (called rules j) (fair .laws j lj) t u shaped su (holding .full) full (holding .fixed j lj (or-from (eqb j i) _ (ne-eqb j i ne) (q .0))) (q .1))
-          (cases-eq j i)
-      })
+      let su = inside-shaped n u t (run .inside) shaped in (
+        su,
+        record {
+          full = full;
+          inside = λ x v h. holding .inside x v (run .inside x v h);
+          most = λ v stable. subst (λ (d : Table). Inside v d) (sym is) (survives b t shaped (holding .most) i l v stable .1);
+          fixed = λ j lj out.
+              let q = not-woke t u shaped (run .inside) rest j lj out in
+              ⊎-elim
+              (λ (e : j ≡ i). just-ran n (called rules j) (fair .laws j lj) t u shaped su (holding .full) full (subst (λ m. u ≡ called rules m .filter t) (sym e) is) (q .1))
+              (λ ne. still-fixed n (called rules j) (fair .laws j lj) t u shaped su (holding .full) full (holding .fixed j lj (or-from (eqb j i) _ (ne-eqb j i ne) (q .0))) (q .1))
+              (cases-eq j i);
+        },
+      )
 
   -- how a settle ends
   abbrev pub Ends : Table → Outcome → Table → Type 0
@@ -113,20 +115,20 @@ module _ (n : ℕ) (rules : List Rule) (fair : Fair n rules) where
 
   -- nothing waits: the table is the greatest
   pub holding-greatest : (b t : Table) → Shaped n t → Holding n rules b [] t → Greatest n rules b t
-  holding-greatest b t s holding = record
-      { stable = record
-          { shaped = s
-          ; full = holding .full
-          ; inside = holding .inside
-          ; unshrunk = λ i l. fixed-same n (called rules i) (fair .laws i l) t s (holding .full) (holding .fixed i l refl)
-          }
-      ; greatest = holding .most
-      }
+  holding-greatest b t s holding = record {
+    stable = record {
+      shaped = s;
+      full = holding .full;
+      inside = holding .inside;
+      unshrunk = λ i l. fixed-same n (called rules i) (fair .laws i l) t s (holding .full) (holding .fixed i l refl);
+    };
+    greatest = holding .most;
+  }
 
   pub greatest-holding : (b t : Table) → Greatest n rules b t → Holding n rules b [] t
-  greatest-holding b t g = record
-      { full = g .stable .full
-      ; inside = g .stable .inside
-      ; most = g .greatest
-      ; fixed = λ i l out. within-inside n t (called rules i .filter t) (g .stable .unshrunk i l .1) (g .stable .full)
-      }
+  greatest-holding b t g = record {
+    full = g .stable .full;
+    inside = g .stable .inside;
+    most = g .greatest;
+    fixed = λ i l out. within-inside n t (called rules i .filter t) (g .stable .unshrunk i l .1) (g .stable .full);
+  }

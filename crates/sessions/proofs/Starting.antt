@@ -48,9 +48,9 @@ unfit-none n i (r ∷ rs) rest e =
     let more = unfit-none n (suc i) rs rest (here .1) in
     (each (here .0) (more .0), more .1)
   where
-  each : r .fit n ≡ Ok tt → ((k : ℕ) → k < length rs → getD rs k nobody .fit n ≡ Ok tt) → (k : ℕ) → k < length (r ∷ rs) → getD (r ∷ rs) k nobody .fit n ≡ Ok tt
-  each p f zero l = p
-  each p f (suc k) l = f k (le-of-suc-le-suc l)
+    each : r .fit n ≡ Ok tt → ((k : ℕ) → k < length rs → getD rs k nobody .fit n ≡ Ok tt) → (k : ℕ) → k < length (r ∷ rs) → getD (r ∷ rs) k nobody .fit n ≡ Ok tt
+    each p f zero l = p
+    each p f (suc k) l = f k (le-of-suc-le-suc l)
 
 -- the rules of an accepted beginning are fair, and its table is not void
 pub accepted-fair : (n : ℕ) (rules : List Rule) (start : Table) → n ≤ 256 → ((i m : ℕ) → called rules i .fit m ≡ Ok tt → Lawful m (called rules i)) → refusedStart n rules start ≡ None → Fair n rules × (isVoid n start ≡ false)

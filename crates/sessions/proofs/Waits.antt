@@ -55,10 +55,12 @@ joined-from agenda s k h =
 pub joined-not : (agenda : List ℕ) (s : ℕ → Bool) (k : ℕ) → k < 256 → member k (joined agenda s) ≡ false → (member k agenda ≡ false) × (s k ≡ false)
 unfolding joined
 joined-not agenda s k l h =
-    let parts = or-parts (member k agenda) _ (sym (member-append k agenda _) ∙ h) in
-    (parts .0, ⊎-elim
-    (λ yes. absurd (both-ways (member k (select (λ k. s k && not (member k agenda)) 256)) (parts .1) (selects (λ k. s k && not (member k agenda)) 256 k l (and-from (s k) _ yes (not-from-false (member k agenda) (parts .0))))))
-    (λ no. no) (cases-bool (s k)))
+    let parts = or-parts (member k agenda) _ (sym (member-append k agenda _) ∙ h) in (
+      parts .0,
+      ⊎-elim
+          (λ yes. absurd (both-ways (member k (select (λ k. s k && not (member k agenda)) 256)) (parts .1) (selects (λ k. s k && not (member k agenda)) 256 k l (and-from (s k) _ yes (not-from-false (member k agenda) (parts .0))))))
+          (λ no. no) (cases-bool (s k)),
+    )
 
 append-nil : (xs : List ℕ) → xs ++ [] ≡ xs
 append-nil [] = refl
@@ -75,9 +77,9 @@ joined-none agenda s f =
     ap (λ xs. agenda ++ xs) (select-none (λ k. s k && not (member k agenda)) 256 (λ k l. none k (s k) (member k agenda) (f k)))
     ∙ append-nil agenda
   where
-  none : (k : ℕ) (a b : Bool) → (a ≡ true → b ≡ true) → (a && not b) ≡ false
-  none k false b g = refl
-  none k true b g = ap not (g refl)
+    none : (k : ℕ) (a b : Bool) → (a ≡ true → b ≡ true) → (a && not b) ≡ false
+    none k false b g = refl
+    none k true b g = ap not (g refl)
 
 -- all numbers below a bound, and no other
 pub upto-all : (n k : ℕ) → k < n → member k (upto n) ≡ true

@@ -29,9 +29,9 @@ use Rattle.sessions.proofs.Settling.{Fair, woken-low, settles-inside}
 pub failed-settled : (i : ℕ) → failed i ≡ settled → ⊥
 failed-settled i e = both-ways true (ap is e) refl
   where
-  is : Outcome → Bool
-  is settled = false
-  is (failed j) = true
+    is : Outcome → Bool
+    is settled = false
+    is (failed j) = true
 
 chain : {a b c : ℕ} → a ≤ b → b ≤ c → a ≤ c
 chain p q = omega arith
@@ -42,9 +42,9 @@ select-length : (p : ℕ → Bool) (n : ℕ) → length (select p n) ≡ count p
 select-length p zero = refl
 select-length p (suc n) = length-append (select p n) _ ∙ ap₂ (λ a b. a + b) (select-length p n) (one (p n)) ∙ (let e : count p n + cond (p n) 1 0 ≡ cond (p n) 1 0 + count p n = omega arith in e)
   where
-  one : (b : Bool) → length (cond b (n ∷ []) []) ≡ cond b 1 0
-  one true = refl
-  one false = refl
+    one : (b : Bool) → length (cond b (n ∷ []) []) ≡ cond b 1 0
+    one true = refl
+    one false = refl
 
 or-le : (a b : Bool) → cond (a || b) 1 0 ≤ cond a 1 0 + cond b 1 0
 or-le true b = omega arith
@@ -85,19 +85,19 @@ total-add f g (suc n) = let b = total-add f g n in omega arith
 woken-count : (w : ℕ → ℕ → Bool) (s : ℕ → Bool) (r m : ℕ) → count (λ i. some (λ x. s x && w i x) m) r ≤ total (λ x. cond (s x) (count (λ i. w i x) r) 0) m
 woken-count w s r zero = none r
   where
-  none : (r : ℕ) → count (λ i. false) r ≤ 0
-  none zero = omega arith
-  none (suc r) = let m = none r in omega arith
+    none : (r : ℕ) → count (λ i. false) r ≤ 0
+    none zero = omega arith
+    none (suc r) = let m = none r in omega arith
 woken-count w s r (suc m) =
     let a = count-or (λ i. s m && w i m) (λ i. some (λ x. s x && w i x) m) r in
     let b = woken-count w s r m in
     let c = here (s m) r in
     omega arith
   where
-  here : (b : Bool) (r : ℕ) → count (λ i. b && w i m) r ≤ cond b (count (λ i. w i m) r) 0
-  here true r = omega arith
-  here false zero = omega arith
-  here false (suc r) = let m = here false r in omega arith
+    here : (b : Bool) (r : ℕ) → count (λ i. b && w i m) r ≤ cond b (count (λ i. w i m) r) 0
+    here true r = omega arith
+    here false zero = omega arith
+    here false (suc r) = let m = here false r in omega arith
 
 times : (d w : ℕ) → 1 ≤ d → w ≤ d * w
 times d w h = let m = mul-le 1 w d w h (omega arith) in omega arith
@@ -120,16 +120,16 @@ module _ (n : ℕ) (rules : List Rule) (fair : Fair n rules) where
       let s = smaller t u in
       let a = woken-count (λ i x. called rules i .watches x) s 256 256 in
       let b = total-cut (λ x. cond (s x) (count (λ i. called rules i .watches x) 256) 0) n 256 (fair .few) (λ k h.
-        ap (λ (q : Bool). cond q (count (λ i. called rules i .watches k) 256) 0) (none-outside n t u shaped k h)) in
+      ap (λ (q : Bool). cond q (count (λ i. called rules i .watches k) 256) 0) (none-outside n t u shaped k h)) in
       let c = total-mono (λ x. cond (s x) (count (λ i. called rules i .watches x) 256) 0) (λ x. (sizeOf (t x) - sizeOf (u x)) * watchers rules x) n (λ x l. each x (s x) refl) in
       chain a (subst (λ m. m ≤ lost n rules t u) (sym b) c)
     where
-    each : (x : ℕ) (b : Bool) → smaller t u x ≡ b → cond b (count (λ i. called rules i .watches x) 256) 0 ≤ (sizeOf (t x) - sizeOf (u x)) * watchers rules x
-    each x true e =
-        let l = ltb-true _ _ e in
-        subst (λ m. m ≤ (sizeOf (t x) - sizeOf (u x)) * watchers rules x) (sym (count-cut (λ i. called rules i .watches x) (length rules) 256 (fair .short) (idle x)))
-        (times (sizeOf (t x) - sizeOf (u x)) (watchers rules x) (omega arith))
-    each x false e = omega arith
+      each : (x : ℕ) (b : Bool) → smaller t u x ≡ b → cond b (count (λ i. called rules i .watches x) 256) 0 ≤ (sizeOf (t x) - sizeOf (u x)) * watchers rules x
+      each x true e =
+          let l = ltb-true _ _ e in
+          subst (λ m. m ≤ (sizeOf (t x) - sizeOf (u x)) * watchers rules x) (sym (count-cut (λ i. called rules i .watches x) (length rules) 256 (fair .short) (idle x)))
+          (times (sizeOf (t x) - sizeOf (u x)) (watchers rules x) (omega arith))
+      each x false e = omega arith
 
   woke-few : (t u : Table) → Shaped n t → Inside u t → (agenda : List ℕ) → length (woke rules t u agenda) ≤ length agenda + lost n rules t u
   unfolding joined
@@ -138,8 +138,8 @@ module _ (n : ℕ) (rules : List Rule) (fair : Fair n rules) where
       let few = chain (count-mono (λ k. s k && not (member k agenda)) s 256 (λ k l h. and-parts (s k) _ h .0)) (woken-few t u shaped inside) in
       grown (length agenda) (length-append agenda (select (λ k. s k && not (member k agenda)) 256)) (select-length (λ k. s k && not (member k agenda)) 256) few
     where
-    grown : {l c m : ℕ} (a : ℕ) {j : ℕ} → j ≡ a + l → l ≡ c → c ≤ m → j ≤ a + m
-    grown a p q r = omega arith
+      grown : {l c m : ℕ} (a : ℕ) {j : ℕ} → j ≡ a + l → l ≡ c → c ≤ m → j ≤ a + m
+      grown a p q r = omega arith
 
   -- what is lost on the way adds up
   lost-adds : (t u v : Table) → Inside u t → Inside v u → lost n rules t u + lost n rules u v ≡ lost n rules t v

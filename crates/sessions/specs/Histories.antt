@@ -36,6 +36,11 @@ pub data Lived (n most : ℕ) (rules : List Rule) (start : Table) (base : List T
   begun : {w : World} → Begun n rules start base w → Lived n most rules start base [] w
   stepped : {h : History} {w w′ : World} {c : Call} {a : Answer} → Lived n most rules start base h w → Step n most rules w w′ c a → Lived n most rules start base (record { call = c; answer = a } ∷ h) w′
 
+-- A list of calls that leads from the world w to another, the newest first.
+pub data Leads (n most : ℕ) (rules : List Rule) (w : World) : History → World → Type 0 where
+  stays : Leads n most rules w [] w
+  goes : {h : History} {v v′ : World} {c : Call} {a : Answer} → Leads n most rules w h v → Step n most rules v v′ c a → Leads n most rules w (record { call = c; answer = a } ∷ h) v′
+
 -- ---- the orders in force
 
 -- whether a call was performed

@@ -49,13 +49,13 @@ pub data Settles (n : ℕ) (rules : List Rule) : List ℕ → Table → ℕ → 
 
 -- the world after an order that left its variable a value
 abbrev pub stirredBy : List Rule → Call → World → World
-stirredBy rules c w = record
-  { standing = standing.Stirred
-  ; agenda = woke rules (w .table) (ordered c (w .table)) (w .agenda)
-  ; saves = w .saves
-  ; table = ordered c (w .table)
-  ; saved = w .saved
-  }
+stirredBy rules c w = record {
+  standing = standing.Stirred;
+  agenda = woke rules (w .table) (ordered c (w .table)) (w .agenda);
+  saves = w .saves;
+  table = ordered c (w .table);
+  saved = w .saved;
+}
 
 -- the world after a failure, with the table that it left
 abbrev pub brokenBy : Table → World → World

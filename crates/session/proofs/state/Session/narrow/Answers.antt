@@ -15,9 +15,9 @@ returns g c =
     let has = simp toZ-ofZ at (c .interval-row .ensures) in
     let call = Narrow (c .args .x) (c .args .lo) (c .args .hi) in
     let step = c .order .ensures .step call (is-narrow (g .S·Domains .frame s .vars) (c .args .x) (c .args .lo) (c .args .hi) (c .interval-row .result) (g .S·Domains .table s) (c .is-range .result) (g .S·Domains .shaped s) good has) in
-    record
-    { step = step
-    ; promises = step-keeps (g .S·Domains .frame s) (g .B·Bank .rules b) (g .S·Domains .few s) (g .B·Bank .lawful b) call (ofOrder (c .order .result)) _ _ step
-    ; refused = c .order .ensures .refused
-    ; same-frame = c .order .ensures .same-frame
+    record {
+      step = step;
+      promises = step-keeps (g .S·Domains .frame s) (g .B·Bank .rules b) (g .S·Domains .few s) (g .B·Bank .lawful b) call (ofOrder (c .order .result)) _ _ step;
+      refused = c .order .ensures .refused;
+      same-frame = c .order .ensures .same-frame;
     }

@@ -16,10 +16,10 @@ returns-in-Ok g c =
     let s = c .args .store .now in
     let n = c .variables .ensures .value in
     let told = sym (c .in-Ok .is) ∙ c .admit .ensures ∙ ap (λ m. verdict (when (isFailed (c .args .self .now .standing)) fault.Failed (when (not (ltb (c .args .x) m)) fault.Variable (when (not (c .args .fine)) fault.Value None)))) n in
-    record
-    { step = λ call is. order-done (g .S·Domains .frame s) (g .B·Bank .rules (c .args .bank .now)) call (c .args .x) (c .args .row) (c .args .fine) (world (c .args .self .now) (g .S·Domains .table s) (g .S·Domains .saved s)) is _ (c .perform .result) tt told (c .perform .ensures .world) (c .perform .ensures .answer)
-    ; refused = tt
-    ; same-frame = c .perform .ensures .same-frame
+    record {
+      step = λ call is. order-done (g .S·Domains .frame s) (g .B·Bank .rules (c .args .bank .now)) call (c .args .x) (c .args .row) (c .args .fine) (world (c .args .self .now) (g .S·Domains .table s) (g .S·Domains .saved s)) is _ (c .perform .result) tt told (c .perform .ensures .world) (c .perform .ensures .answer);
+      refused = tt;
+      same-frame = c .perform .ensures .same-frame;
     }
 
 pub returns-in-Err : need.returns-in-Err
@@ -27,8 +27,8 @@ returns-in-Err g c =
     let s = c .args .store .now in
     let n = c .variables .ensures .value in
     let told = sym (c .in-Err .is) ∙ c .admit .ensures ∙ ap (λ m. verdict (when (isFailed (c .args .self .now .standing)) fault.Failed (when (not (ltb (c .args .x) m)) fault.Variable (when (not (c .args .fine)) fault.Value None)))) n in
-    record
-    { step = λ call is. order-refused (g .S·Domains .frame s) (g .B·Bank .rules (c .args .bank .now)) call (c .args .x) (c .args .row) (c .args .fine) (world (c .args .self .now) (g .S·Domains .table s) (g .S·Domains .saved s)) is _ (c .in-Err .fault) told refl
-    ; refused = (refl, refl)
-    ; same-frame = refl
+    record {
+      step = λ call is. order-refused (g .S·Domains .frame s) (g .B·Bank .rules (c .args .bank .now)) call (c .args .x) (c .args .row) (c .args .fine) (world (c .args .self .now) (g .S·Domains .table s) (g .S·Domains .saved s)) is _ (c .in-Err .fault) told refl;
+      refused = (refl, refl);
+      same-frame = refl;
     }

@@ -13,9 +13,9 @@ returns g c =
     let good = simp toZ-ofZ at (c .is-value .ensures) in
     let lacks = simp toZ-ofZ at (c .without-row .ensures) in
     let step = c .order .ensures .step (Strike (c .args .x) (c .args .v)) (is-strike (g .S·Domains .frame s .vars) (c .args .x) (c .args .v) (c .without-row .result) (c .all .result) (g .S·Domains .table s) (c .is-value .result) (g .S·Domains .shaped s) good (c .all .ensures) lacks) in
-    record
-    { step = step
-    ; promises = step-keeps (g .S·Domains .frame s) (g .B·Bank .rules b) (g .S·Domains .few s) (g .B·Bank .lawful b) (Strike (c .args .x) (c .args .v)) (ofOrder (c .order .result)) _ _ step
-    ; refused = c .order .ensures .refused
-    ; same-frame = c .order .ensures .same-frame
+    record {
+      step = step;
+      promises = step-keeps (g .S·Domains .frame s) (g .B·Bank .rules b) (g .S·Domains .few s) (g .B·Bank .lawful b) (Strike (c .args .x) (c .args .v)) (ofOrder (c .order .result)) _ _ step;
+      refused = c .order .ensures .refused;
+      same-frame = c .order .ensures .same-frame;
     }

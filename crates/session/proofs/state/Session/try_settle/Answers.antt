@@ -20,10 +20,10 @@ less f e t u before after same inside eb ea =
 pub returns-in-Failed : need.returns-in-Failed
 returns-in-Failed g c =
     let s = c .args .store .now in
-    record
-    { step = settle-refused (g .S·Domains .frame s) (g .B·Bank .rules (c .args .bank .now)) (world (c .args .self .now) (g .S·Domains .table s) (g .S·Domains .saved s)) _ (c .in-Failed .is) refl
-    ; refused = (refl, refl)
-    ; same-frame = refl
+    record {
+      step = settle-refused (g .S·Domains .frame s) (g .B·Bank .rules (c .args .bank .now)) (world (c .args .self .now) (g .S·Domains .table s) (g .S·Domains .saved s)) _ (c .in-Failed .is) refl;
+      refused = (refl, refl);
+      same-frame = refl;
     }
 
 pub sub-result : need.sub-result
@@ -33,11 +33,11 @@ pub returns-in-Settled : need.returns-in-Settled
 returns-in-Settled g c =
     let s = c .args .store .now in
     let after = c .in-Settled .ensures tt in
-    record
-    { step = settle-settles (g .S·Domains .frame s) (g .B·Bank .rules (c .args .bank .now)) (world (c .args .self .now) (g .S·Domains .table s) (g .S·Domains .saved s)) _ (c .in-Settled .runs) (c .total-before .result) (c .total .result) (c .in-rest .not-Failed) (after .settles) (c .total-before .ensures .value) (c .total .ensures .value ∙ ap (λ (h : Frame). values (h .vars) (g .S·Domains .table (c .propagate .last .store))) (c .propagate .ensures .same-frame))
-        (world-is refl (after .idle refl) (c .propagate .ensures .same-saves) refl (c .propagate .ensures .same-saved))
-    ; refused = tt
-    ; same-frame = c .propagate .ensures .same-frame
+    record {
+      step = settle-settles (g .S·Domains .frame s) (g .B·Bank .rules (c .args .bank .now)) (world (c .args .self .now) (g .S·Domains .table s) (g .S·Domains .saved s)) _ (c .in-Settled .runs) (c .total-before .result) (c .total .result) (c .in-rest .not-Failed) (after .settles) (c .total-before .ensures .value) (c .total .ensures .value ∙ ap (λ (h : Frame). values (h .vars) (g .S·Domains .table (c .propagate .last .store))) (c .propagate .ensures .same-frame))
+          (world-is refl (after .idle refl) (c .propagate .ensures .same-saves) refl (c .propagate .ensures .same-saved));
+      refused = tt;
+      same-frame = c .propagate .ensures .same-frame;
     }
 
 pub returns-in-Failed-propagate : need.returns-in-Failed-propagate
@@ -45,9 +45,9 @@ returns-in-Failed-propagate g c =
     let s = c .args .store .now in
     let after = c .in-Failed-propagate .ensures tt in
     let failed = c .fail .ensures in
-    record
-    { step = settle-breaks (g .S·Domains .frame s) (g .B·Bank .rules (c .args .bank .now)) (world (c .args .self .now) (g .S·Domains .table s) (g .S·Domains .saved s)) _ (c .in-Failed-propagate .rule) (c .in-Failed-propagate .runs) (c .in-rest .not-Failed) (after .settles)
-        (world-is (failed .0) (failed .1) (failed .2 ∙ c .propagate .ensures .same-saves) refl (c .propagate .ensures .same-saved))
-    ; refused = tt
-    ; same-frame = c .propagate .ensures .same-frame
+    record {
+      step = settle-breaks (g .S·Domains .frame s) (g .B·Bank .rules (c .args .bank .now)) (world (c .args .self .now) (g .S·Domains .table s) (g .S·Domains .saved s)) _ (c .in-Failed-propagate .rule) (c .in-Failed-propagate .runs) (c .in-rest .not-Failed) (after .settles)
+          (world-is (failed .0) (failed .1) (failed .2 ∙ c .propagate .ensures .same-saves) refl (c .propagate .ensures .same-saved));
+      refused = tt;
+      same-frame = c .propagate .ensures .same-frame;
     }
