@@ -1,4 +1,4 @@
-// A walk through the library: a small catalogue in a copying store, narrowed, saved, narrowed again and taken back.
+// A clerk's afternoon: a cabinet is ordered, choices are made, taken back and made otherwise, and after each call the values left are shown.
 ghost use mathlib.Core.Path.{_≡_};
 ghost use mathlib.Core.Bool.{true, false};
 ghost use lib.IntN.{ℤ, pos, _+ℤ_};
@@ -6,22 +6,80 @@ ghost use lib.Signed.{_≤ℤ_};
 use copying::Copying;
 use copying::CopyingDomains;
 use copying::CopyingLevels;
+use offsets::Offset;
+use offsets::Offsets;
+use offsets::OffsetsBank;
+use rules::Bank;
+use rules::Joined;
+use rules::JoinedBank;
+use session::Session;
+use sessions::Answer;
+use sessions::Call;
 use std::io;
 use tables::Domains;
 use tables::Levels;
-use tables::Row;
-use tables::StoreFault;
 use tables::rows;
 
-// The catalogue's variables.
-const WIDTH: usize = 0;
+// The cabinet's variables.
+const OPENING: usize = 0;
 
-const COLOUR: usize = 1;
+const DOOR: usize = 1;
 
-const SHELVES: usize = 2;
+const FRAME: usize = 2;
 
-// How many words three variables and two saved tables take.
-const WORDS: usize = 16 * 3 * 3;
+const SHELF: usize = 3;
+
+// How many words four variables and two saved tables take.
+const WORDS: usize = 16 * 4 * 3;
+
+// The joiner's rules: the opening is one wider than the door, the frame two wider than the opening.
+const SIZES: [Offset; 2] = [
+    Offset {
+        x: OPENING,
+        y: DOOR,
+        c: 1,
+    },
+    Offset {
+        x: FRAME,
+        y: OPENING,
+        c: 2,
+    },
+];
+
+// The fitter's rule: the shelf is four narrower than the door.
+const FITTINGS: [Offset; 1] = [Offset {
+    x: SHELF,
+    y: DOOR,
+    c: -4,
+}];
+
+// What the clerk asks for.
+const CALLS: [Call; 16] = [
+    Call::Save,
+    Call::Settle,
+    Call::Save,
+    Call::Narrow {
+        x: FRAME,
+        lo: 9,
+        hi: 11,
+    },
+    Call::Strike { x: DOOR, v: 512 },
+    Call::Settle,
+    Call::Restore,
+    Call::Save,
+    Call::Narrow {
+        x: SHELF,
+        lo: 0,
+        hi: 1,
+    },
+    Call::Strike { x: FRAME, v: 7 },
+    Call::Settle,
+    Call::Settle,
+    Call::Restore,
+    Call::Restore,
+    Call::Strike { x: OPENING, v: 8 },
+    Call::Settle,
+];
 
 // The last value of the run of values that begins at `lo`.
 fn run_end<S: Domains>(store: &S, x: usize, lo: i32) -> i32
@@ -64,97 +122,69 @@ fn show_all<S: Domains>(rt: &LibcRuntime, store: &S) -> io::Result<()> {
     Ok(())
 }
 
-// Keeps a row, and prints what happened and the table after it.
-fn keep<S: Domains>(
-    rt: &LibcRuntime,
-    store: &mut S,
-    x: usize,
-    row: Row,
-    what: &str,
-) -> io::Result<()> {
-    let kept = store.keep(x, row);
-    let answer = match (kept.smaller, kept.empty) {
-        (_, true) => "nothing left",
-        (true, false) => "smaller",
-        (false, false) => "as it was",
-    };
-    println!(rt, "keep x{x} {what}: {answer}")?;
-    show_all(rt, store)
+// Prints a call.
+fn show_call(rt: &LibcRuntime, call: Call) -> io::Result<()> {
+    match call {
+        Call::Strike { x, v } => print!(rt, "strike x{x} {v}: "),
+        Call::Narrow { x, lo, hi } => print!(rt, "narrow x{x} to {lo}..{hi}: "),
+        Call::Settle => print!(rt, "settle: "),
+        Call::Save => print!(rt, "save: "),
+        Call::Restore => print!(rt, "restore: "),
+    }
 }
 
-// Prints what a call answered, and the table after it.
-fn report<S: Domains>(
-    rt: &LibcRuntime,
-    store: &S,
-    call: &str,
-    answer: Result<(), StoreFault>,
-) -> io::Result<()> {
+// Prints an answer with its counts.
+fn show_answer(rt: &LibcRuntime, answer: Answer) -> io::Result<()> {
     match answer {
-        Ok(()) => println!(rt, "{call}: ok")?,
-        Err(fault) => println!(rt, "{call}: refused {}", fault.number())?,
+        Answer::Done => println!(rt, "ok"),
+        Answer::Emptied => println!(rt, "failed"),
+        Answer::Settled { runs, removed } => println!(
+            rt,
+            "settled, {runs} runs, {removed} removed"
+        ),
+        Answer::Failed { rule, runs } => println!(rt, "failed at rule {rule}, {runs} runs"),
+        Answer::Refused(fault) => println!(rt, "refused {}", fault.number()),
     }
-    show_all(rt, store)
 }
 
 // The offer as it stands in the catalogue.
-fn set_up<S: Domains>(rt: &LibcRuntime, store: &mut S) -> io::Result<()> {
-    keep(
-        rt,
-        store,
-        WIDTH,
-        rows::with(rows::interval(1, 5), 7),
-        "to 1..5 and 7",
-    )?;
-    keep(rt, store, COLOUR, rows::interval(-2, 2), "to -2..2")?;
-    keep(
-        rt,
-        store,
-        SHELVES,
-        rows::interval(0, i32::MAX),
-        "to 0 and more",
-    )?;
-    keep(rt, store, SHELVES, rows::interval(-9, 511), "to -9..511")
+fn set_up<S: Domains>(store: &mut S) {
+    let _opening = store.keep(OPENING, rows::interval(1, 12));
+    let _door = store.keep(DOOR, rows::without(rows::interval(2, 10), 5));
+    let _frame = store.keep(FRAME, rows::interval(1, 20));
+    let _shelf = store.keep(SHELF, rows::interval(0, 5));
 }
 
-// Two choices, each behind a save, one that leaves nothing, and the way back.
-fn choose<S: Levels>(rt: &LibcRuntime, store: &mut S) -> io::Result<()> {
-    let answer = store.save();
-    report(rt, store, "save", answer)?;
-    keep(rt, store, WIDTH, rows::without(rows::all(), 3), "without 3")?;
-    keep(
-        rt,
-        store,
-        SHELVES,
-        rows::interval(i32::MIN, 4),
-        "to 4 and less",
-    )?;
-    let answer = store.save();
-    report(rt, store, "save", answer)?;
-    keep(rt, store, COLOUR, rows::none(), "to none")?;
-    let answer = store.save();
-    report(rt, store, "save", answer)
-}
-
-// Back to the catalogue, and no further.
-fn go_back<S: Levels>(rt: &LibcRuntime, store: &mut S) -> io::Result<()> {
-    for _ in 0..3 {
-        let answer = store.restore();
-        report(rt, store, "restore", answer)?;
+// Plays the calls one after another, and shows each with its answer and the values left.
+fn afternoon<S: Levels, B: Bank>(
+    rt: &LibcRuntime,
+    store: &mut S,
+    bank: &B,
+    calls: &[Call],
+) -> io::Result<()> {
+    let mut session = Session::begin(store, bank);
+    for call in calls {
+        let mut answers = [Answer::Done];
+        session.play(store, bank, &[*call], &mut answers);
+        show_call(rt, *call)?;
+        show_answer(rt, answers[0])?;
+        show_all(rt, store)?;
     }
-    keep(rt, store, 3, rows::all(), "which is no variable")
+    Ok(())
 }
 
 fn main(rt: LibcRuntime) -> io::Result<()> {
     let mut words = [u64::MAX; WORDS];
-    let answer = Copying::check(&words, 3, 3);
-    let call = "check of 3 variables and 3 saves in 144 words";
-    let none = Copying::new(&mut words, 3, 3);
-    report(&rt, &none, call, answer)?;
-    let answer = Copying::check(&words, 3, 2);
-    let call = "check of 3 variables and 2 saves in 144 words";
-    let mut store = Copying::new(&mut words, 3, 2);
-    report(&rt, &store, call, answer)?;
-    set_up(&rt, &mut store)?;
-    choose(&rt, &mut store)?;
-    go_back(&rt, &mut store)
+    let mut store = Copying::new(&mut words, 4, 2);
+    set_up(&mut store);
+    let bank = Joined {
+        first: Offsets::new(&SIZES),
+        second: Offsets::new(&FITTINGS),
+    };
+    match Session::check(&store, &bank) {
+        Ok(()) => println!(&rt, "begin: ok")?,
+        Err(fault) => println!(&rt, "begin: refused {}", fault.number())?,
+    }
+    show_all(&rt, &store)?;
+    afternoon(&rt, &mut store, &bank, &CALLS)
 }
