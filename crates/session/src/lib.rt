@@ -181,7 +181,7 @@ impl Session {
     fn fail(&mut self)
         ensures { λ _. ⌜ (now (self .exit) .standing ≡ Failed) × (waits (now (self .exit) .agenda) ≡ []) × (now (self .exit) .saves ≡ now (self .entry) .saves) ⌝ }
     {
-        self.agenda.clear();
+        self.agenda = Agenda::new();
         self.standing = Standing::Failed;
     }
 

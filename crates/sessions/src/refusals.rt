@@ -29,7 +29,7 @@ impl SessionFault {
 pub impl From<StoreFault> for SessionFault as SessionFaultFromStore {
     ghost converts = { λ e r. r ≡ Store e };
 
-    fn from(fault: StoreFault) -> Self {
-        SessionFault::Store(fault)
+    fn from(refusal: StoreFault) -> Self {
+        SessionFault::Store(refusal)
     }
 }
