@@ -3,6 +3,7 @@ ghost use mathlib.Core.Path.{_≡_};
 ghost use mathlib.Core.Bool.{Bool, true, false, not, _&&_};
 ghost use mathlib.Core.List.{[], _∷_, _++_};
 ghost use Prim.Native.Nat.{ℕ, min, _+_, _%_, _<_};
+ghost use lib.Dec.{eqb};
 ghost use Rattle.std.specs.Options.{Cases};
 ghost use Rattle.rules.specs.Banks.{inSet};
 ghost use Rattle.sessions.specs.Agendas.{member, upto, joined};
@@ -109,6 +110,15 @@ impl Agenda {
         sets::insert(&mut self.waiting, rule);
     }
 
+    // The waiting rules but one.
+    fn others(&self, rule: usize) -> Set
+        ensures { λ r. ⌜ ((k : ℕ) → inSet r k ≡ (inSet (now (self .entry) .waiting) k && not (eqb k rule))) ⌝ }
+    {
+        let mut set = self.waiting;
+        sets::remove(&mut set, rule);
+        set
+    }
+
     // Takes the first rule, where one waits.
     fn shift(&mut self) -> usize
         requires some { ⌜ 0 < now self .len ⌝ }
@@ -116,9 +126,10 @@ impl Agenda {
         ensures below { λ r. ⌜ r < 256 ⌝ }
     {
         let rule = self.rules[self.first] as usize;
+        let others = self.others(rule);
         self.first = self.second();
         self.len -= 1;
-        sets::remove(&mut self.waiting, rule);
+        self.waiting = others;
         rule
     }
 }

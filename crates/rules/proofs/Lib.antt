@@ -1,2 +1,3 @@
 pub mod Members
 pub mod Voids
+pub mod Joining

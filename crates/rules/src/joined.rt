@@ -1,6 +1,10 @@
 // Two banks as one: the first one's rules come before the second's.
 ghost use mathlib.Core.Path.{_≡_};
+ghost use mathlib.Core.Bool.{cond};
 ghost use mathlib.Core.List.{_++_};
+ghost use Prim.Native.Nat.{_+_, _-_, _≤_};
+ghost use lib.Dec.{leb, ltb};
+ghost use Rattle.rules.specs.declared.found.Found.the-variants.{Nobody, First, Second};
 ghost use Rattle.rules.specs.Facts.{joined-lawful};
 ghost use Rattle.rules.specs.Joins.{Whose};
 use crate::bank::Bank;
@@ -16,20 +20,35 @@ pub struct Joined<P, Q> {
     pub second: Q,
 }
 
+// A number of rules, or 257 where there are more than 256.
+fn capped(count: usize) -> usize
+    ensures { λ r. ⌜ r ≡ cond (leb count 256) count 257 ⌝ }
+{
+    if count > 256 { 257 } else { count }
+}
+
+// Where a rule stands, if the first bank has `first` rules and the second `second`.
+fn place(rule: usize, first: usize, second: usize) -> Found
+    requires first { ⌜ first ≤ 257 ⌝ }
+    requires second { ⌜ second ≤ 257 ⌝ }
+    ensures { λ r. ⌜ r ≡ cond (leb (first + second) 256) (cond (ltb rule first) (First rule) (Second (rule - first))) Nobody ⌝ }
+{
+    if first + second > 256 {
+        return Found::Nobody;
+    }
+    if rule < first {
+        Found::First(rule)
+    } else {
+        Found::Second(rule - first)
+    }
+}
+
 impl<P: Bank, Q: Bank> Joined<P, Q> {
     // Which bank has a rule, and by which number; nobody where together they have more than 256.
     fn find(&self, rule: usize) -> Found
         ensures { λ r. ⌜ Whose (P·Bank .rules (now (self .entry) .first)) (Q·Bank .rules (now (self .entry) .second)) rule r ⌝ }
     {
-        let count = self.first.rules();
-        if count + self.second.rules() > 256 {
-            return Found::Nobody;
-        }
-        if rule < count {
-            Found::First(rule)
-        } else {
-            Found::Second(rule - count)
-        }
+        place(rule, self.first.rules(), self.second.rules())
     }
 }
 
@@ -39,8 +58,7 @@ pub impl<P: Bank, Q: Bank> Bank for Joined<P, Q> as JoinedBank {
     ghost lawful = { λ b. joined-lawful (P·Bank .rules (b .first)) (Q·Bank .rules (b .second)) (P·Bank .lawful (b .first)) (Q·Bank .lawful (b .second)) };
 
     fn rules(&self) -> usize {
-        let count = self.first.rules() + self.second.rules();
-        if count > 256 { 257 } else { count }
+        capped(self.first.rules() + self.second.rules())
     }
 
     fn fit(&self, rule: usize, n: usize) -> Result<(), RuleFault> {

@@ -71,12 +71,12 @@ kept-smaller n x row t few shaped z =
     and-true false = refl
 
 -- the world after an order that left its variable a value
-pub stirs-world : (n x : ℕ) (row : List ℕ) (t t′ : Table) (rules : List Rule) (agenda agenda′ : List ℕ) (s s′ : ℕ) (v v′ : List Table) (c : Standing) (k : Kept) → n ≤ 256 → Shaped n t → t′ ≡ kept x row t → k ≡ answerKeep (t x) (t′ x) → k .empty ≡ false → agenda′ ≡ joined agenda (woken rules (λ z. k .smaller && (eqb z x && ltb x 256))) → s′ ≡ s → v′ ≡ v
-    → _≡_ {A = World} (record { standing = standing.Stirred; agenda = agenda′; saves = s′; table = t′; saved = v′ }) (afterOrder rules x (kept x row t) (record { standing = c; agenda = agenda; saves = s; table = t; saved = v }))
-stirs-world n x row t t′ rules agenda agenda′ s s′ v v′ c k few shaped et ek left ea es ev =
+pub stirs-world : (n x : ℕ) (row : List ℕ) (t t′ : Table) (rules : List Rule) (agenda agenda′ : List ℕ) (s s′ : ℕ) (v v′ : List Table) (c d : Standing) (k : Kept) → d ≡ standing.Stirred → n ≤ 256 → Shaped n t → t′ ≡ kept x row t → k ≡ answerKeep (t x) (t′ x) → k .empty ≡ false → agenda′ ≡ joined agenda (woken rules (λ z. k .smaller && (eqb z x && ltb x 256))) → s′ ≡ s → v′ ≡ v
+    → _≡_ {A = World} (record { standing = d; agenda = agenda′; saves = s′; table = t′; saved = v′ }) (afterOrder rules x (kept x row t) (record { standing = c; agenda = agenda; saves = s; table = t; saved = v }))
+stirs-world n x row t t′ rules agenda agenda′ s s′ v v′ c d k ed few shaped et ek left ea es ev =
     let some : eqb (sizeOf (kept x row t x)) 0 ≡ false = ap (λ (u : Table). eqb (sizeOf (u x)) 0) (sym et) ∙ sym (ap (λ (q : Kept). q .empty) ek) ∙ left in
     let small : k .smaller ≡ ltb (sizeOf (kept x row t x)) (sizeOf (t x)) = ap (λ (q : Kept). q .smaller) ek ∙ ap (λ (u : Table). ltb (sizeOf (u x)) (sizeOf (t x))) et in
-    world-is refl
+    world-is ed
     (ea ∙ ap (λ (q : ℕ → Bool). joined agenda (woken rules q)) (fun-ext (λ z. ap (λ (b : Bool). b && (eqb z x && ltb x 256)) small ∙ kept-smaller n x row t few shaped z)))
     es et ev
     ∙ sym (cond-false _ _ _ some)

@@ -20,7 +20,7 @@ ghost use Rattle.sessions.specs.Steps.{values, settled, Settles, savedBy, resto
 ghost use Rattle.sessions.specs.Histories.{granted, Leads};
 ghost use Rattle.agenda.specs.Meaning.{waits};
 ghost use Rattle.session.specs.declared.outcome.Ordered.the-variants.{Done, Emptied};
-ghost use Rattle.sessions.specs.declared.standing.Standing.the-variants.{Failed};
+ghost use Rattle.sessions.specs.declared.standing.Standing.the-variants.{Failed, Stirred};
 ghost use Rattle.sessions.specs.Agendas.{joined};
 ghost use Rattle.rules.specs.Banks.{inSet, woken};
 ghost use Rattle.session.specs.Answers.{ofOrder, ofSettle, ofPlain, runsOf, endOf, verdict, orRest};
@@ -50,12 +50,20 @@ use tables::Row;
 use tables::StoreFault;
 use tables::rows;
 
+// How many values variable x has left.
+fn left<S: Domains>(store: &S, x: usize) -> usize
+    ensures value { λ r. ⌜ r ≡ sizeOf (S·Domains .table (now (store .entry)) x) ⌝ }
+    ensures bound { λ r. ⌜ r ≤ 1024 ⌝ }
+{
+    store.size(x)
+}
+
 // Whether one of the first n variables has no value.
 fn has_empty<S: Domains>(store: &S, n: usize) -> bool
     ensures { λ r. ⌜ r ≡ isVoid n (S·Domains .table (now (store .entry))) ⌝ }
 {
     for x in 0..n {
-        if store.size(x) == 0 {
+        if left(store, x) == 0 {
             return true;
         }
     }
@@ -114,7 +122,7 @@ fn total<S: Domains>(store: &S) -> usize
     let n = store.variables();
     let mut sum = 0;
     for x in 0..n {
-        sum += store.size(x);
+        sum += left(store, x);
     }
     sum
 }
@@ -206,6 +214,15 @@ impl Session {
         }
     }
 
+    // An order left variable x a value: the session stands stirred.
+    fn stir<B: Bank>(&mut self, bank: &B, x: usize, smaller: bool)
+        ensures agenda { λ _. ⌜ waits (now (self .exit) .agenda) ≡ joined (waits (now (self .entry) .agenda)) (woken (B·Bank .rules (now (bank .entry))) (λ z. smaller && (eqb z x && ltb x 256))) ⌝ }
+        ensures stands { λ _. ⌜ (now (self .exit) .standing ≡ Stirred) × (now (self .exit) .saves ≡ now (self .entry) .saves) ⌝ }
+    {
+        self.wake_at(bank, x, smaller);
+        self.standing = Standing::Stirred;
+    }
+
     // Performs an order by which variable x keeps the values of a row.
     fn perform<S: Levels, B: Bank>(
         &mut self,
@@ -223,8 +240,7 @@ impl Session {
             self.fail();
             return Ordered::Emptied;
         }
-        self.wake_at(bank, x, kept.smaller);
-        self.standing = Standing::Stirred;
+        self.stir(bank, x, kept.smaller);
         Ordered::Done
     }
 

@@ -10,4 +10,4 @@ one-more : (t : Table) (x sum size : ℕ) → sum ≡ values x t → sum ≤ 102
 one-more t x sum size e l s b = ((let v = values-more t x in omega arith), omega arith)
 
 pub loop-x-again : need.loop-x-again
-loop-x-again g c = one-more (g .S·Domains .table (c .args .store .now)) (c .loop-x .x) (c .loop-x .sum) (c .size-sum .result) (c .loop-x .inv .0) (c .loop-x .inv .1) (c .size-sum .ensures .value) (c .size-sum .ensures .bound)
+loop-x-again g c = one-more (g .S·Domains .table (c .args .store .now)) (c .loop-x .x) (c .loop-x .sum) (c .left-sum .result) (c .loop-x .inv .0) (c .loop-x .inv .1) (c .left-sum .ensures .value) (c .left-sum .ensures .bound)

@@ -11,7 +11,7 @@ ghost-self c =
         omega arith,
         (
           pop-is-apart (s .rules) (s .waiting) (s .first) (s .len) (s .low) (c .pre .some) (s .apart) (s .tells) (c .second-self .result) (c .second-self .ensures),
-          (pop-is-told (s .rules) (s .waiting) (s .first) (s .len) (s .low) (c .pre .some) (s .apart) (s .tells) (c .second-self .result) (c .second-self .ensures) (c .remove .last .set) (c .remove .ensures), tt),
+          (pop-is-told (s .rules) (s .waiting) (s .first) (s .len) (s .low) (c .pre .some) (s .apart) (s .tells) (c .second-self .result) (c .second-self .ensures) (c .others-others .result) (c .others-others .ensures), tt),
         ),
       ),
     )

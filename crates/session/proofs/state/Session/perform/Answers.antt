@@ -10,7 +10,7 @@ returns g c =
     let t = g .S·Domains .table s in
     let keep = c .keep-kept .ensures in
     record {
-      world = stirs-world (g .S·Domains .frame s .vars) (c .args .x) (c .args .row) t _ (g .B·Bank .rules (c .args .bank .now)) (waits (c .args .self .now .agenda)) _ _ _ _ _ (c .args .self .now .standing) (c .keep-kept .result) (g .S·Domains .few s) (g .S·Domains .shaped s) (keep .after) (keep .answer) (c .if-kept .left) (c .wake-at .ensures .agenda) (c .wake-at .ensures .same .1) (keep .same-saved);
+      world = stirs-world (g .S·Domains .frame s .vars) (c .args .x) (c .args .row) t _ (g .B·Bank .rules (c .args .bank .now)) (waits (c .args .self .now .agenda)) _ _ _ _ _ (c .args .self .now .standing) _ (c .keep-kept .result) (c .stir .ensures .stands .0) (g .S·Domains .few s) (g .S·Domains .shaped s) (keep .after) (keep .answer) (c .if-kept .left) (c .stir .ensures .agenda) (c .stir .ensures .stands .1) (keep .same-saved);
       answer = sym (cond-false _ _ _ (stirs-some (c .args .x) (c .args .row) t _ (c .keep-kept .result) (keep .after) (keep .answer) (c .if-kept .left)));
       same-frame = keep .same-frame;
     }
