@@ -93,10 +93,8 @@ fn matched<S: Domains>(store: &S, o: Offset) -> Both
     while let Some(w) = store.next(o.y, from) {
         let v = w + o.c;
         if store.has(o.x, v) {
-            let wider_x = rows::with(x, v);
-            let wider_y = rows::with(y, w);
-            x = wider_x;
-            y = wider_y;
+            rows::insert(&mut x, v);
+            rows::insert(&mut y, w);
         }
         from = w + 1;
     }

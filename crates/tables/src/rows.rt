@@ -86,6 +86,15 @@ pub fn with(row: Row, v: i32) -> Row
     }
 }
 
+// Puts a value into a row in its place; a number that is no value changes nothing.
+pub fn insert(row: &mut Row, v: i32)
+    ensures { λ _. ⌜ ((u : ℤ) → inRow (now (row .exit)) u ≡ (inRow (now (row .entry)) u || (isValue v && equalZ u v))) ⌝ }
+{
+    if let Some(p) = place_of(v) {
+        row[p / 64] |= 1 << (p % 64);
+    }
+}
+
 // The row with a value taken out.
 pub fn without(row: Row, v: i32) -> Row
     ensures { λ r. ⌜ ((u : ℤ) → inRow r u ≡ (inRow row u && not (equalZ u v))) ⌝ }

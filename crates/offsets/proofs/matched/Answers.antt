@@ -12,7 +12,7 @@ loop-w-less g c = turn-less _ (g .S·Domains .table (c .args .store .now)) (g .S
 
 pub loop-w-again : need.loop-w-again
 loop-w-again g c = elim (c .if-has .came) [
-  | then-has w ↦ turn-hit _ (g .S·Domains .table (c .args .store .now)) (g .S·Domains .shaped (c .args .store .now)) (c .args .o .x) (c .args .o .y) (c .args .o .c) _ (c .in-Some .w) (c .in-Some .ensures tt .value) (c .loop-w .x) (c .loop-w .y) (c .loop-w .inv) (c .pre) (sym (c .has .ensures) ∙ w .if-has .taken) (c .if-has .x) (c .if-has .y) (λ v. ap (λ r. inRow r v) (w .x-is) ∙ w .with-wider-x .ensures v) (λ v. ap (λ r. inRow r v) (w .y-is) ∙ w .with-wider-y .ensures v)
+  | then-has w ↦ turn-hit _ (g .S·Domains .table (c .args .store .now)) (g .S·Domains .shaped (c .args .store .now)) (c .args .o .x) (c .args .o .y) (c .args .o .c) _ (c .in-Some .w) (c .in-Some .ensures tt .value) (c .loop-w .x) (c .loop-w .y) (c .loop-w .inv) (c .pre) (sym (c .has .ensures) ∙ w .if-has .taken) (c .if-has .x) (c .if-has .y) (λ v. ap (λ r. inRow r v) (w .x-is) ∙ w .insert .ensures v) (λ v. ap (λ r. inRow r v) (w .y-is) ∙ w .insert-then-has .ensures v)
   | else-has w ↦ turn-miss _ (g .S·Domains .table (c .args .store .now)) (g .S·Domains .shaped (c .args .store .now)) (c .args .o .x) (c .args .o .y) (c .args .o .c) _ (c .in-Some .w) (c .in-Some .ensures tt .value) (c .loop-w .x) (c .loop-w .y) (c .loop-w .inv) (c .pre) (sym (c .has .ensures) ∙ w .if-has .left) (c .if-has .x) (c .if-has .y) (w .x-is) (w .y-is)
 ]
 
