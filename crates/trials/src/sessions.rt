@@ -301,17 +301,26 @@ fn sixteen_saves_come_back() -> Result<(), Fail> {
         let events = [once, (Call::Save, Answer::Done), order];
         go(&mut session, &mut store, &bank, &events)?;
     }
-    let more = [once, (Call::Save, Answer::Refused(FULL))];
+    let more = [
+        once,
+        (Call::Save, Answer::Refused(FULL)),
+        (strike(0, 16), Answer::Done),
+    ];
     go(&mut session, &mut store, &bank, &more)?;
-    check_eq(store.size(0), 1008)?;
+    check_eq(store.size(0), 1007)?;
     for v in (0..16u8).rev() {
         check(!store.has(0, i32::from(v)))?;
         check_eq(session.restore(&mut store, &bank), Ok(()))?;
         check(store.has(0, i32::from(v)))?;
     }
-    let last = session.restore(&mut store, &bank);
-    check_eq(last, Err(SessionFault::NoSave))?;
-    check_eq(store.size(0), 1024)
+    check_eq(store.size(0), 1024)?;
+    // No rule waits any more, though the last order woke one.
+    let end = [
+        (Call::Restore, Answer::Refused(SessionFault::NoSave)),
+        (Call::Save, Answer::Done),
+        (Call::Settle, settled(0, 0)),
+    ];
+    go(&mut session, &mut store, &bank, &end)
 }
 
 // A table that the store saved by itself is none of the session's, and takes room from its saves.
