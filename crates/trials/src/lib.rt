@@ -69,4 +69,6 @@ pub fn small_table_counts() -> usize
 }
 
 #[cfg(test)]
+mod sessions;
+#[cfg(test)]
 mod tests;
