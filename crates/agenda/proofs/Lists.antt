@@ -12,18 +12,12 @@ use Rattle.std.proofs.shelf.Lists.{append-nil, append-assoc}
 use Rattle.std.proofs.shelf.Tests.{cases-lt, eqb-false, eq-eqb, ne-eqb, lt-ltb, and-from, not-from-false, or-from, or-left, or-right, or-parts, eqb-true}
 use Rattle.tables.specs.Tables.{count}
 use Rattle.tables.proofs.Counts.{count-le, count-less}
+use Rattle.tables.proofs.Truths.{and-true}
 use Rattle.sessions.specs.Agendas.{member, NoTwice, select}
+use Rattle.sessions.proofs.Waits.{member-append}
 use Rattle.agenda.specs.Rings.{isApart}
 
 -- ---- members
-
-pub member-append : (k : ℕ) (xs ys : List ℕ) → member k (xs ++ ys) ≡ (member k xs || member k ys)
-member-append k [] ys = refl
-member-append k (x ∷ xs) ys = ap (λ (b : Bool). eqb k x || b) (member-append k xs ys) ∙ regroup (eqb k x)
-  where
-    regroup : (a : Bool) → (a || (member k xs || member k ys)) ≡ ((a || member k xs) || member k ys)
-    regroup true = refl
-    regroup false = refl
 
 or-false : (a : Bool) → (a || false) ≡ a
 or-false true = refl
@@ -75,19 +69,11 @@ push-tells old new x xs below tells put k =
     ∙ ap₂ (λ (a b : Bool). a || (eqb k x && b)) (tells k) (lt-ltb x 256 below)
     ∙ ap (λ (b : Bool). member k xs || b) (and-true (eqb k x))
     ∙ sym (member-push k x xs)
-  where
-    and-true : (a : Bool) → (a && true) ≡ a
-    and-true true = refl
-    and-true false = refl
 
 -- the first is told no more
 pub pop-tells : (old new : ℕ → Bool) (x : ℕ) (xs : List ℕ) → member x xs ≡ false → ((k : ℕ) → old k ≡ member k (x ∷ xs)) → ((k : ℕ) → new k ≡ (old k && not (eqb k x))) → (k : ℕ) → new k ≡ member k xs
 pop-tells old new x xs once tells taken k = taken k ∙ ap (λ (b : Bool). b && not (eqb k x)) (tells k) ∙ by (eqb k x) refl
   where
-    and-true : (a : Bool) → (a && true) ≡ a
-    and-true true = refl
-    and-true false = refl
-
     by : (b : Bool) → eqb k x ≡ b → ((b || member k xs) && not b) ≡ member k xs
     by true e = sym (subst (λ j. member j xs ≡ false) (sym (eqb-true k x e)) once)
     by false e = and-true (member k xs)

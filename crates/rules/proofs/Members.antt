@@ -3,17 +3,18 @@ use mathlib.Core.Path.{_≡_, refl, sym, ap, ap₂, subst, _∙_}
 use mathlib.Core.Bool.{Bool, true, false, cond, not, _&&_, _||_}
 use mathlib.Core.List.{List, [], _∷_}
 use mathlib.Core.Logic.{⊎-elim}
-use Prim.Native.Nat.{ℕ, zero, suc, min, _+_, _-_, _*_, _/_, _%_, _^_, _≤_, _<_}
+use Prim.Native.Nat.{ℕ, zero, suc, min, _-_, _*_, _/_, _%_, _^_, _≤_, _<_}
 use native.Mathlib.Omega.{arith}
 use lib.Bits.{bitAnd, bitOr}
 use lib.Dec.{eqb, ltb, leb}
 use lib.ListN.{length, getD, set}
 use Rattle.std.proofs.shelf.Bits.{one-shl}
 use Rattle.std.proofs.shelf.Lists.{getD-past}
-use Rattle.std.proofs.shelf.Tests.{cases-lt, both-ways, leb-true, cases-eq, lt-ltb, le-ltb, ne-eqb, and-left}
+use Rattle.std.proofs.shelf.Tests.{cases-lt, both-ways, leb-true, cases-eq, lt-ltb, le-ltb, ne-eqb, and-left, and-right, or-right}
 use Rattle.std.specs.declared.option.Option.{Option}
 use Rattle.std.specs.declared.option.Option.the-variants.{Some, None}
 use Rattle.tables.specs.Rows.{bit, First}
+use Rattle.tables.proofs.Truths.{and-true}
 use Rattle.tables.proofs.Words.{bit-and, bit-not, bit-zero}
 use Rattle.tables.proofs.Places.{at-past, at-put, at-drop}
 use Rattle.rules.specs.Rules.{Rule}
@@ -55,14 +56,10 @@ pub some-none : (p : ℕ → Bool) (n : ℕ) → ((k : ℕ) → k < n → p k �
 some-none p zero f = refl
 some-none p (suc n) f = ap₂ (λ (a b : Bool). a || b) (f n (omega arith)) (some-none p n (λ k h. f k (omega arith)))
 
-or-true : (a : Bool) → (a || true) ≡ true
-or-true true = refl
-or-true false = refl
-
 -- one below a bound passes
 pub some-one : (p : ℕ → Bool) (n k : ℕ) → k < n → p k ≡ true → some p n ≡ true
 some-one p zero k h e = absurd (omega arith)
-some-one p (suc n) k h e = ⊎-elim (λ low. ap (λ (b : Bool). p n || b) (some-one p n k low e) ∙ or-true (p n)) (λ high. let q : k ≡ n = omega arith in ap (λ (b : Bool). b || some p n) (subst (λ m. p m ≡ true) q e)) (cases-lt k n)
+some-one p (suc n) k h e = ⊎-elim (λ low. ap (λ (b : Bool). p n || b) (some-one p n k low e) ∙ or-right (p n) true refl) (λ high. let q : k ≡ n = omega arith in ap (λ (b : Bool). b || some p n) (subst (λ m. p m ≡ true) q e)) (cases-lt k n)
 
 -- a rule that watches a changed variable is woken
 pub woken-one : (rules : List Rule) (s : ℕ → Bool) (i x : ℕ) → x < 256 → s x ≡ true → called rules i .watches x ≡ true → woken rules s i ≡ true
@@ -72,10 +69,6 @@ woken-one rules s i x h a b = some-one (λ x. s x && called rules i .watches x) 
 pub woken-none : (rules : List Rule) (s : ℕ → Bool) (i : ℕ) → ((x : ℕ) → x < 256 → (s x && called rules i .watches x) ≡ false) → woken rules s i ≡ false
 unfolding woken
 woken-none rules s i f = some-none (λ x. s x && called rules i .watches x) 256 f
-
-and-false : (a : Bool) → (a && false) ≡ false
-and-false true = refl
-and-false false = refl
 
 -- past the last rule there is nobody
 pub called-past : (rules : List Rule) (i : ℕ) → countOf rules ≤ i → called rules i ≡ nobody
@@ -94,11 +87,7 @@ called-many rules i h = cases (leb (length rules) 256) refl
     cases false e = ap (λ (b : Bool). cond b (getD rules i nobody) nobody) e
 
 pub woken-nobody : (rules : List Rule) (s : ℕ → Bool) (i : ℕ) → called rules i ≡ nobody → woken rules s i ≡ false
-woken-nobody rules s i e = woken-none rules s i (λ x h. ap (λ (r : Rule). s x && r .watches x) e ∙ and-false (s x))
-
-and-true : (a : Bool) → (a && true) ≡ a
-and-true true = refl
-and-true false = refl
+woken-nobody rules s i e = woken-none rules s i (λ x h. ap (λ (r : Rule). s x && r .watches x) e ∙ and-right (s x) false refl)
 
 -- a number put in, with the mask as `1 << k` gives it
 pub put-in : (s : List ℕ) (k j : ℕ) → length s ≡ 4 → k < 256 → inSet (set s (k / 64) (bitOr (getD s (k / 64) 0) ((1 * 2 ^ (k % 64)) % 2 ^ 64))) j ≡ (inSet s j || (eqb j k && ltb k 256))

@@ -1,15 +1,15 @@
 -- Sizes of domains, void tables, and tables inside one another.
-use mathlib.Core.Path.{_≡_, refl, sym, ap, ap₂, subst, _∙_}
-use mathlib.Core.Bool.{Bool, true, false, cond, not, _&&_, _||_}
-use mathlib.Core.Logic.{_⊎_, inl, inr, ⊎-elim}
-use Prim.Native.Nat.{ℕ, zero, suc, _+_, _≤_, _<_}
+use mathlib.Core.Path.{_≡_, refl, sym, subst}
+use mathlib.Core.Bool.{Bool, true, false, not, _&&_}
+use mathlib.Core.Logic.{⊎-elim}
+use Prim.Native.Nat.{ℕ, zero, suc, _≤_, _<_}
 use native.Mathlib.Omega.{arith}
 use lib.Dec.{eqb}
 use lib.IntN.{ℤ}
-use Rattle.std.proofs.shelf.Tests.{both-ways, cases-lt, cases-bool, cases-eq, eqb-true, eq-eqb, ne-eqb, and-parts, or-cases, or-parts, or-from, or-left, or-right}
+use Rattle.std.proofs.shelf.Tests.{both-ways, cases-lt, cases-bool, cases-eq, eqb-true, eq-eqb, and-parts, or-cases, or-left, or-right}
 use Rattle.tables.specs.Values.{isValue, valueAt, equalZ}
 use Rattle.tables.specs.Tables.{Domain, Table, sizeOf, Shaped, isVoid, Inside, Within}
-use Rattle.tables.proofs.Counts.{count-mono, size-less, size-none, size-some}
+use Rattle.tables.proofs.Counts.{count-mono, size-less, size-some}
 use Rattle.tables.proofs.Places.{equal-true, equal-same}
 use Rattle.rules.specs.Rules.{Assignment, at, In}
 

@@ -15,7 +15,7 @@ use Rattle.sessions.specs.declared.call.Call.the-variants.{Settle}
 use Rattle.sessions.specs.declared.answer.Answer.{Answer}
 use Rattle.sessions.specs.declared.answer.Answer.the-variants.{Done}
 use Rattle.sessions.specs.Worlds.{World}
-use Rattle.sessions.specs.Histories.{History, Event, Leads, goes}
+use Rattle.sessions.specs.Histories.{History, Leads, goes}
 use Rattle.session.specs.Meaning.{Steps, events}
 
 -- an answer that is written later changes no earlier event

@@ -1,9 +1,8 @@
 -- From what a call does to what is promised of it.
 use mathlib.Core.Path.{_≡_, ap, _∙_}
 use mathlib.Core.List.{List, [], _++_}
-use Prim.Native.Nat.{ℕ, _≤_}
+use Prim.Native.Nat.{_≤_}
 use Rattle.std.specs.declared.option.Option.{Option}
-use Rattle.std.specs.declared.option.Option.the-variants.{Some, None}
 use Rattle.tables.specs.Tables.{Table, Shaped}
 use Rattle.tables.specs.Stores.{Frame}
 use Rattle.rules.specs.Rules.{Rule}

@@ -1,13 +1,11 @@
 -- From what the code does to the steps of a session.
 use mathlib.Core.Path.{_≡_, refl, sym, ap, ap₂, subst, fun-ext, _∙_}
 use mathlib.Core.Bool.{Bool, true, false, cond, not, _&&_, _||_}
-use mathlib.Core.List.{List, [], _∷_}
+use mathlib.Core.List.{List}
 use mathlib.Core.Logic.{⊎-elim}
-use Prim.Native.Nat.{ℕ, _+_, _-_, _≤_, _<_}
-use native.Mathlib.Omega.{arith}
+use Prim.Native.Nat.{ℕ, _-_}
 use lib.Dec.{eqb, ltb}
 use lib.IntN.{ℤ}
-use lib.ListN.{length}
 use lib.Signed.{leZ}
 use Rattle.std.proofs.shelf.Tests.{both-ways, cases-bool, cond-true, cond-false}
 use Rattle.std.specs.Results.{isOk, Cases}
@@ -27,7 +25,7 @@ use Rattle.sessions.specs.declared.call.Call.the-variants.{Strike, Narrow, Sett
 use Rattle.sessions.specs.declared.answer.Answer.{Answer}
 use Rattle.sessions.specs.declared.fault.SessionFault.{SessionFault}
 use Rattle.sessions.specs.declared.fault.SessionFault.the-variants as fault
-use Rattle.sessions.specs.Worlds.{World, isFailed, when, refusal, aimed, ordered}
+use Rattle.sessions.specs.Worlds.{World, isFailed, when, refusal}
 use Rattle.sessions.specs.Steps.{values, woke, settled, failed, Settles, brokenBy, settledBy, savedBy, restoredBy, refused, stirs, empties, settles, breaks, saves, restores}
 use Rattle.sessions.specs.Histories.{granted}
 use Rattle.sessions.proofs.Starting.{failed-stands}

@@ -1,16 +1,15 @@
 -- One turn of settling: a rule is taken and run, and those that it woke join.
-use mathlib.Core.Path.{_≡_, refl, sym, ap, ap₂, subst, fun-ext, _∙_}
-use mathlib.Core.Bool.{Bool, true, false, _&&_}
+use mathlib.Core.Path.{_≡_, sym, ap, subst, fun-ext, _∙_}
+use mathlib.Core.Bool.{Bool, false}
 use mathlib.Core.List.{List, [], _∷_}
 use mathlib.Core.Logic.{⊎-elim}
 use Prim.Native.Nat.{ℕ, zero, suc, _+_, _*_, _≤_, _<_}
 use native.Mathlib.Omega.{arith}
-use lib.Dec.{ltb}
 use lib.ListN.{length}
-use Rattle.std.proofs.shelf.Tests.{both-ways, cases-lt, le-ltb}
+use Rattle.std.proofs.shelf.Tests.{both-ways, cases-lt, le-ltb, and-left}
 use Rattle.tables.specs.Values.{valueAt}
 use Rattle.tables.specs.Stores.{Frame}
-use Rattle.tables.specs.Tables.{Domain, Table, sizeOf, Shaped, Inside, count}
+use Rattle.tables.specs.Tables.{Domain, Table, sizeOf, Shaped, Inside}
 use Rattle.tables.proofs.Counts.{count-le}
 use Rattle.rules.specs.Rules.{Rule}
 use Rattle.rules.specs.declared.ran.Ran.the-variants as ran
@@ -71,15 +70,11 @@ falls n rules a rest rest′ s i t u shaped is run joins short =
     (λ less. omega arith)
     (λ same.
     let mono = values-mono n u t (run .inside) in
-    let none : woke rules t u rest ≡ rest = joined-none rest (woken rules (smaller t u)) (λ k h. absurd (both-ways _ (woken-none rules (smaller t u) k (λ x l. quiet x (smaller t u x) (called rules k .watches x) (unchanged same x))) h)) in
+    let none : woke rules t u rest ≡ rest = joined-none rest (woken rules (smaller t u)) (λ k h. absurd (both-ways _ (woken-none rules (smaller t u) k (λ x l. and-left (smaller t u x) (called rules k .watches x) (unchanged same x))) h)) in
     let e = ap length (joins ∙ woke-named rules t u s rest (run .named) ∙ none) in
     omega arith)
     (cases-lt (values n u) (values n t))
   where
-    quiet : (x : ℕ) (p q : Bool) → p ≡ false → (p && q) ≡ false
-    quiet x false q e = refl
-    quiet x true q e = absurd (both-ways true e refl)
-
     unchanged : values n t ≤ values n u → (x : ℕ) → smaller t u x ≡ false
     unchanged same x = ⊎-elim (λ low. le-ltb _ _ (values-same n u t (run .inside) same x low)) (λ high. none-outside n t u shaped x high) (cases-lt x n)
 

@@ -1,26 +1,26 @@
 -- Which rules join the agenda after a change of the table, and the world then.
-use mathlib.Core.Path.{_≡_, refl, sym, ap, ap₂, subst, fun-ext, _∙_}
-use mathlib.Core.Bool.{Bool, true, false, cond, _&&_, _||_}
-use mathlib.Core.List.{List, []}
+use mathlib.Core.Path.{_≡_, refl, sym, ap, ap₂, fun-ext, _∙_}
+use mathlib.Core.Bool.{Bool, true, false, _&&_, _||_}
+use mathlib.Core.List.{List}
 use mathlib.Core.Logic.{⊎-elim}
-use Prim.Native.Nat.{ℕ, _+_, _*_, _≤_, _<_}
+use Prim.Native.Nat.{ℕ, _≤_}
 use native.Mathlib.Omega.{arith}
 use lib.Dec.{eqb, ltb}
-use lib.ListN.{length}
-use Rattle.std.proofs.shelf.Tests.{both-ways, cases-lt, cases-eq, cases-bool, eq-eqb, ne-eqb, lt-ltb, le-ltb, ltb-true, cond-true, cond-false, and-right}
-use Rattle.tables.specs.Tables.{Domain, Table, sizeOf, Shaped, Inside, kept}
+use Rattle.std.proofs.shelf.Tests.{both-ways, cases-lt, cases-eq, eq-eqb, ne-eqb, lt-ltb, le-ltb, cond-false, and-right}
+use Rattle.tables.specs.Tables.{Table, sizeOf, Shaped, kept}
 use Rattle.tables.specs.Stores.{answerKeep}
 use Rattle.tables.specs.declared.kept.Kept.{Kept}
 use Rattle.tables.proofs.Counts.{size-none}
 use Rattle.tables.proofs.Keeps.{kept-beside, nothing-outside}
+use Rattle.tables.proofs.Truths.{and-true}
 use Rattle.rules.specs.Rules.{Rule}
-use Rattle.rules.specs.Banks.{inSet, nothing, woken, Names}
+use Rattle.rules.specs.Banks.{inSet, nothing, woken}
 use Rattle.rules.proofs.Members.{nothing-in, woken-none}
 use Rattle.sessions.specs.declared.standing.Standing.{Standing}
 use Rattle.sessions.specs.declared.standing.Standing.the-variants as standing
 use Rattle.sessions.specs.Agendas.{joined}
 use Rattle.sessions.specs.Worlds.{World}
-use Rattle.sessions.specs.Steps.{smaller, woke, brokenBy}
+use Rattle.sessions.specs.Steps.{smaller}
 use Rattle.sessions.proofs.Waits.{joined-none}
 use Rattle.session.specs.Meaning.{afterOrder}
 
@@ -65,10 +65,6 @@ kept-smaller n x row t few shaped z =
     let no : smaller t (kept x row t) z ≡ false = le-ltb _ _ (omega arith) in
     and-right _ _ (ap (λ (q : Bool). q && ltb x 256) (ne-eqb z x ne)) ∙ sym no)
     (cases-eq z x)
-  where
-    and-true : (b : Bool) → (b && true) ≡ b
-    and-true true = refl
-    and-true false = refl
 
 -- the world after an order that left its variable a value
 pub stirs-world : (n x : ℕ) (row : List ℕ) (t t′ : Table) (rules : List Rule) (agenda agenda′ : List ℕ) (s s′ : ℕ) (v v′ : List Table) (c d : Standing) (k : Kept) → d ≡ standing.Stirred → n ≤ 256 → Shaped n t → t′ ≡ kept x row t → k ≡ answerKeep (t x) (t′ x) → k .empty ≡ false → agenda′ ≡ joined agenda (woken rules (λ z. k .smaller && (eqb z x && ltb x 256))) → s′ ≡ s → v′ ≡ v

@@ -20,7 +20,7 @@ use Rattle.sessions.specs.declared.answer.Answer.the-variants.{Done}
 use Rattle.sessions.specs.Agendas.{upto}
 use Rattle.sessions.specs.Worlds.{World, isFailed, when, refusal, refusedStart, aimed, ordered}
 use Rattle.sessions.specs.Steps.{Step, woke, brokenBy}
-use Rattle.sessions.specs.Histories.{History, Event, Lived}
+use Rattle.sessions.specs.Histories.{History, Lived}
 use Rattle.sessions.specs.Promises.{Kept, Stuck, Throughout}
 use Rattle.agenda.specs.Meaning.{waits}
 use Rattle.session.specs.declared.state.Session.{Session}

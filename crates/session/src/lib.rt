@@ -1,8 +1,8 @@
 // A session: orders are given, rules are run until none removes more, and tables are saved and taken back.
 ghost use mathlib.Core.Path.{_≡_};
 ghost use mathlib.Core.Bool.{true, false, cond, not, _&&_};
-ghost use mathlib.Core.List.{List, []};
-ghost use Prim.Native.Nat.{ℕ, min, _≤_};
+ghost use mathlib.Core.List.{[]};
+ghost use Prim.Native.Nat.{min, _≤_};
 ghost use lib.Dec.{eqb, ltb};
 ghost use lib.ListN.{length, drop};
 ghost use lib.Signed.{leZ};

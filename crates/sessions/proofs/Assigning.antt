@@ -1,26 +1,26 @@
 -- An assignment that obeys is never lost: alone it is a table that no rule shrinks.
-use mathlib.Core.Path.{_≡_, refl, sym, ap, ap₂, subst, _∙_}
-use mathlib.Core.Bool.{Bool, true, false, cond, not, _&&_, _||_}
+use mathlib.Core.Path.{_≡_, refl, sym, ap, subst}
+use mathlib.Core.Bool.{Bool, true, cond, _&&_}
 use mathlib.Core.List.{List, [], _∷_}
-use mathlib.Core.Logic.{_⊎_, inl, inr, ⊎-elim}
-use Prim.Native.Nat.{ℕ, zero, suc, _+_, _≤_, _<_}
+use mathlib.Core.Logic.{inr, ⊎-elim}
+use Prim.Native.Nat.{ℕ, zero, suc, _≤_, _<_}
 use native.Mathlib.Nat.{le-of-suc-le-suc, not-suc-le-zero}
 use native.Mathlib.Omega.{arith}
-use lib.Dec.{ltb, leb}
+use lib.Dec.{ltb}
 use lib.IntN.{ℤ}
 use lib.ListN.{length, getD}
-use Rattle.std.proofs.shelf.Tests.{both-ways, cases-bool, and-parts, and-from, lt-ltb, ltb-true, le-leb}
-use Rattle.tables.specs.Values.{isValue, equalZ}
-use Rattle.tables.specs.Tables.{Table, sizeOf, Shaped, isVoid, Inside}
+use Rattle.std.proofs.shelf.Tests.{cases-bool, and-parts, and-from, lt-ltb, ltb-true, le-leb}
+use Rattle.tables.specs.Values.{equalZ}
+use Rattle.tables.specs.Tables.{Table, Shaped, Inside}
 use Rattle.tables.proofs.Places.{equal-true, equal-same}
-use Rattle.rules.specs.Rules.{Rule, Assignment, at, In, Same, Single}
+use Rattle.tables.proofs.Truths.{either}
+use Rattle.rules.specs.Rules.{Rule, Assignment, at, In, Single}
 use Rattle.rules.specs.Banks.{called, nobody}
-use Rattle.rules.proofs.Voids.{in-full, within-inside, full-from}
+use Rattle.rules.proofs.Voids.{in-full}
 use Rattle.sessions.specs.declared.call.Call.{Call}
-use Rattle.sessions.specs.Worlds.{ordered}
 use Rattle.sessions.specs.Histories.{under}
-use Rattle.sessions.specs.Numbers.{obeysAll, obeying, number}
-use Rattle.sessions.specs.Promises.{Stable, NoStable, Greatest, Obeys}
+use Rattle.sessions.specs.Numbers.{obeysAll, obeying}
+use Rattle.sessions.specs.Promises.{Stable, NoStable, Obeys}
 use Rattle.sessions.proofs.Settling.{Fair}
 use Rattle.sessions.proofs.Ordering.{ordered-inside}
 use Rattle.sessions.proofs.Counting.{inFrom, in-test, test-in, number-same, number-none, number-one}
@@ -62,11 +62,6 @@ all-obeyed (r ∷ rs) a f = and-from (r .obeyed a) _ (f 0 (omega arith)) (all-ob
 -- in a bank of at most 256 the rule of a number is the one at its place
 called-at : (rules : List Rule) → length rules ≤ 256 → (i : ℕ) → called rules i ≡ getD rules i nobody
 called-at rules short i = ap (λ (b : Bool). cond b (getD rules i nobody) nobody) (le-leb (length rules) 256 short)
-
-either : (a b : Bool) → (a ≡ true → b ≡ true) → (b ≡ true → a ≡ true) → a ≡ b
-either true b f g = sym (f refl)
-either false true f g = g refl
-either false false f g = refl
 
 module _ (n : ℕ) (rules : List Rule) (fair : Fair n rules) where
   -- an assignment that obeys is a stable table

@@ -1,21 +1,21 @@
 -- What the laws of a rule say of a table that it leaves, and of a smaller one.
-use mathlib.Core.Path.{_≡_, refl, sym, ap, subst, fun-ext, _∙_}
-use mathlib.Core.Bool.{Bool, true, false, cond, not, _&&_, _||_}
+use mathlib.Core.Path.{_≡_, sym, subst, fun-ext, _∙_}
+use mathlib.Core.Bool.{true, false}
 use mathlib.Core.List.{List}
-use mathlib.Core.Logic.{_⊎_, inl, inr, ⊎-elim}
-use Prim.Native.Nat.{ℕ, _≤_, _<_}
+use mathlib.Core.Logic.{inr, ⊎-elim}
+use Prim.Native.Nat.{ℕ, _≤_}
 use native.Mathlib.Omega.{arith}
-use lib.Dec.{ltb}
 use lib.IntN.{ℤ}
-use Rattle.std.proofs.shelf.Tests.{both-ways, cases-lt, cases-bool, ltb-true, ltb-false, lt-ltb, and-cases, and-from}
+use Rattle.std.proofs.shelf.Tests.{both-ways, cases-lt, cases-bool, ltb-false}
 use Rattle.tables.specs.Values.{isValue}
-use Rattle.tables.specs.Tables.{Domain, Table, sizeOf, Shaped, isVoid, Inside, Within}
+use Rattle.tables.specs.Tables.{Domain, Table, sizeOf, Shaped, isVoid, Inside}
 use Rattle.tables.proofs.Counts.{size-less}
 use Rattle.tables.proofs.Keeps.{nothing-outside}
+use Rattle.tables.proofs.Truths.{either}
 use Rattle.rules.specs.Rules.{Rule, Lawful, Same, Agree}
-use Rattle.rules.specs.Banks.{called, woken, some}
+use Rattle.rules.specs.Banks.{called, woken}
 use Rattle.rules.proofs.Members.{woken-one}
-use Rattle.rules.proofs.Voids.{full-at, full-from, full-outside, within-inside, within-full, inside-shaped, void-some}
+use Rattle.rules.proofs.Voids.{full-outside, within-inside, within-full, inside-shaped}
 use Rattle.sessions.specs.Steps.{smaller}
 
 -- ---- domains that did not get smaller
@@ -26,12 +26,7 @@ same-size d e f g l v h = ⊎-elim (λ yes. yes) (λ no. let less = size-less d 
 
 pub not-smaller : (n : ℕ) (u t : Table) → Shaped n t → Inside u t → (x : ℕ) → smaller t u x ≡ false → u x ≡ t x
 not-smaller n u t s i x h =
-    fun-ext (λ v. either v (u x v) (t x v) (i x v) (same-size (u x) (t x) (i x) (λ v q. s x v q .1) (ltb-false _ _ h) v))
-  where
-    either : (v : ℤ) (a b : Bool) → (a ≡ true → b ≡ true) → (b ≡ true → a ≡ true) → a ≡ b
-    either v true b f g = sym (f refl)
-    either v false true f g = g refl
-    either v false false f g = refl
+    fun-ext (λ v. either (u x v) (t x v) (i x v) (same-size (u x) (t x) (i x) (λ v q. s x v q .1) (ltb-false _ _ h) v))
 
 -- a rule that is not woken sees the same watched domains
 pub unwoken-agree : (n : ℕ) (rules : List Rule) (u t : Table) → n ≤ 256 → Shaped n t → Inside u t → (j : ℕ) → woken rules (smaller t u) j ≡ false → Agree (called rules j) t u

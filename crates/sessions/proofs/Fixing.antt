@@ -1,8 +1,7 @@
 -- A step fixes its answer, and the world after it but for the table of a failure.
 use mathlib.Core.Path.{_≡_, refl, sym, ap, ap₂, subst, _∙_}
-use mathlib.Core.Bool.{Bool, true, false}
-use mathlib.Core.List.{List, [], _∷_}
-use mathlib.Core.Logic.{_⊎_, inl, inr, ⊎-elim}
+use mathlib.Core.Bool.{true, false}
+use mathlib.Core.List.{List}
 use Prim.Native.Nat.{ℕ, suc, _-_}
 use lib.Dec.{eqb}
 use Rattle.std.proofs.shelf.Tests.{both-ways}
@@ -11,7 +10,7 @@ use Rattle.std.specs.declared.option.Option.the-variants.{Some, None}
 use Rattle.tables.specs.Tables.{Table, sizeOf, isVoid}
 use Rattle.rules.specs.Rules.{Rule}
 use Rattle.sessions.specs.declared.call.Call.{Call}
-use Rattle.sessions.specs.declared.call.Call.the-variants.{Strike, Narrow, Settle, Save, Restore}
+use Rattle.sessions.specs.declared.call.Call.the-variants.{Settle, Save, Restore}
 use Rattle.sessions.specs.declared.answer.Answer.{Answer}
 use Rattle.sessions.specs.declared.answer.Answer.the-variants.{Done, Emptied, Settled, Failed, Refused}
 use Rattle.sessions.specs.declared.fault.SessionFault.{SessionFault}

@@ -1,37 +1,29 @@
 -- The promises hold after every history, for every lawful bank.
 use mathlib.Core.Path.{_≡_, refl, sym, ap, subst, fun-ext, _∙_}
-use mathlib.Core.Bool.{Bool, true, false}
 use mathlib.Core.List.{List, [], _∷_, _++_}
-use Prim.Native.Nat.{ℕ, _+_, _≤_, _<_}
+use Prim.Native.Nat.{ℕ, _+_, _≤_}
 use native.Mathlib.Omega.{arith}
-use lib.IntN.{ℤ}
 use lib.ListN.{length}
-use Rattle.std.specs.declared.option.Option.the-variants.{None}
 use Rattle.std.proofs.shelf.Lists.{length-append}
-use Rattle.std.proofs.shelf.Tests.{both-ways}
-use Rattle.tables.specs.Tables.{Table, Shaped, isVoid, Inside}
+use Rattle.tables.specs.Tables.{Table, Shaped, Inside}
+use Rattle.tables.proofs.Truths.{either}
 use Rattle.rules.specs.Rules.{Rule, at}
 use Rattle.rules.specs.Banks.{Lawfully}
 use Rattle.rules.proofs.Voids.{inside-shaped}
 use Rattle.sessions.specs.declared.standing.Standing.the-variants as standing
 use Rattle.sessions.specs.declared.call.Call.{Call}
 use Rattle.sessions.specs.declared.answer.Answer.{Answer}
-use Rattle.sessions.specs.declared.answer.Answer.the-variants.{Done, Emptied, Settled, Failed, Refused}
-use Rattle.sessions.specs.Worlds.{World, isFailed, refusedStart}
-use Rattle.sessions.specs.Steps.{Step, refused, stirs, empties, settles, breaks, saves, restores, settled}
+use Rattle.sessions.specs.declared.answer.Answer.the-variants.{Settled}
+use Rattle.sessions.specs.Worlds.{World}
+use Rattle.sessions.specs.Steps.{Step, refused, stirs, empties, settles, breaks, saves, restores}
 use Rattle.sessions.specs.Histories.{History, Event, Lived, begun, stepped, orders, bounds}
-use Rattle.sessions.specs.Promises.{Stable, Greatest, Bounded, Promises, Kept, Throughout, lost}
+use Rattle.sessions.specs.Promises.{Greatest, Bounded, Promises, Kept, Throughout, lost}
 use Rattle.sessions.proofs.Settling.{Fair, Holding, holding-greatest}
 use Rattle.sessions.proofs.Starting.{accepted-fair, settled-stands}
 use Rattle.sessions.proofs.Living.{Noted, Sound, sound, lived-begun}
 use Rattle.sessions.proofs.Assigning.{under-inside, not-lost, none-obeys, same-number, no-number, one-number}
 use Rattle.sessions.proofs.Working.{few-runs}
 use Rattle.sessions.proofs.Fixing.{step-only}
-
-either : (a b : Bool) → (a ≡ true → b ≡ true) → (b ≡ true → a ≡ true) → a ≡ b
-either true b f g = sym (f refl)
-either false true f g = g refl
-either false false f g = refl
 
 abbrev newestOf : History → Event → Event
 newestOf [] d = d

@@ -1,15 +1,15 @@
 -- What holds after every history, by induction on it.
 use mathlib.Core.Path.{_≡_, refl, sym, ap, subst, _∙_}
-use mathlib.Core.Bool.{Bool, true, false, cond, not, _&&_, _||_}
+use mathlib.Core.Bool.{Bool, true, false, not, _&&_, _||_}
 use mathlib.Core.List.{List, [], _∷_, _++_}
-use mathlib.Core.Logic.{_⊎_, inl, inr, ⊎-elim}
-use Prim.Native.Nat.{ℕ, zero, suc, _+_, _-_, _≤_, _<_}
+use mathlib.Core.Logic.{⊎-elim}
+use Prim.Native.Nat.{ℕ, zero, suc, _-_}
 use native.Mathlib.Omega.{arith}
 use lib.Dec.{eqb}
 use lib.ListN.{length}
 use Rattle.std.specs.declared.option.Option.the-variants.{Some, None}
 use Rattle.std.proofs.shelf.Tests.{both-ways, and-parts, or-left, or-right, or-cases}
-use Rattle.tables.specs.Tables.{Table, sizeOf, Shaped, isVoid, Inside}
+use Rattle.tables.specs.Tables.{Table, sizeOf, Shaped, isVoid}
 use Rattle.tables.specs.Stores.{newest, older}
 use Rattle.rules.specs.Rules.{Rule}
 use Rattle.rules.specs.Banks.{called, woken, some}
@@ -21,9 +21,9 @@ use Rattle.sessions.specs.declared.answer.Answer.{Answer}
 use Rattle.sessions.specs.declared.answer.Answer.the-variants.{Done, Emptied, Settled, Failed, Refused}
 use Rattle.sessions.specs.declared.fault.SessionFault.{SessionFault}
 use Rattle.sessions.specs.Agendas.{member, upto}
-use Rattle.sessions.specs.Worlds.{World, isFailed, isStirred, isNone, refusal, refusedStart, aimed, ordered}
+use Rattle.sessions.specs.Worlds.{World, isFailed, isStirred, refusal, refusedStart, aimed, ordered}
 use Rattle.sessions.specs.Steps.{values, smaller, woke, settled, failed, Settles, stirredBy, brokenBy, settledBy, savedBy, restoredBy, Step, refused, stirs, empties, settles, breaks, saves, restores}
-use Rattle.sessions.specs.Histories.{History, Event, Begun, Lived, begun, stepped, Leads, stays, goes, granted, Orders, putBack, heeded, orders, under, bounds, isSettled, rests, rested, everSettled, aims, touched}
+use Rattle.sessions.specs.Histories.{History, Lived, begun, stepped, Leads, stays, goes, granted, Orders, putBack, heeded, orders, under, bounds, rests, rested, everSettled, aims, touched}
 use Rattle.sessions.specs.Promises.{NoStable, Greatest, Waiting}
 use Rattle.sessions.proofs.Waits.{joined-from, joined-none, upto-all, upto-below}
 use Rattle.sessions.proofs.Settling.{Fair, Low, Holding, woken-low, woke-low, settling, settles-inside, holding-greatest, greatest-holding}

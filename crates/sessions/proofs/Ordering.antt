@@ -1,13 +1,12 @@
 -- What holds when an order is performed.
 use mathlib.Core.Path.{_≡_, refl, sym, ap, subst, fun-ext, _∙_}
-use mathlib.Core.Bool.{Bool, true, false, cond, not, _&&_, _||_}
-use mathlib.Core.List.{List, [], _∷_}
-use mathlib.Core.Logic.{_⊎_, inl, inr, ⊎-elim}
-use Prim.Native.Nat.{ℕ, suc, _≤_, _<_}
+use mathlib.Core.Bool.{Bool, true, false, not, _&&_, _||_}
+use mathlib.Core.List.{List}
+use mathlib.Core.Logic.{⊎-elim}
+use Prim.Native.Nat.{ℕ, _<_}
 use native.Mathlib.Omega.{arith}
 use lib.Dec.{eqb}
 use lib.IntN.{ℤ}
-use lib.ListN.{length}
 use lib.Signed.{leZ}
 use Rattle.std.specs.Options.{isSome}
 use Rattle.std.proofs.shelf.Tests.{both-ways, cases-eq, eqb-true, eqb-false, eq-eqb, ne-eqb, and-parts, and-from, ltb-true}
@@ -15,6 +14,7 @@ use Rattle.std.specs.declared.option.Option.{Option}
 use Rattle.std.specs.declared.option.Option.the-variants.{Some, None}
 use Rattle.tables.specs.Values.{equalZ}
 use Rattle.tables.specs.Tables.{Domain, Table, sizeOf, Shaped, isVoid, Inside}
+use Rattle.tables.proofs.Truths.{and-true}
 use Rattle.rules.specs.Rules.{Rule}
 use Rattle.rules.specs.Banks.{called}
 use Rattle.rules.proofs.Voids.{full-at, full-from, inside-shaped, size-mono}
@@ -35,16 +35,12 @@ allows Settle y w = true
 allows Save y w = true
 allows Restore y w = true
 
-and-true : (a : Bool) → a ≡ (a && true)
-and-true true = refl
-and-true false = refl
-
 pub ordered-is : (c : Call) (t : Table) (y : ℕ) (w : ℤ) → ordered c t y w ≡ (t y w && allows c y w)
 ordered-is (Strike x v) t y w = refl
 ordered-is (Narrow x lo hi) t y w = refl
-ordered-is Settle t y w = and-true (t y w)
-ordered-is Save t y w = and-true (t y w)
-ordered-is Restore t y w = and-true (t y w)
+ordered-is Settle t y w = sym (and-true (t y w))
+ordered-is Save t y w = sym (and-true (t y w))
+ordered-is Restore t y w = sym (and-true (t y w))
 
 -- an order takes away
 pub ordered-inside : (c : Call) (t : Table) → Inside (ordered c t) t
@@ -68,8 +64,8 @@ some-is {a} {b} e = ap got e
 
 -- other variables stay
 pub beside : (c : Call) (x : ℕ) → aimed c ≡ Some x → (t : Table) (y : ℕ) → (y ≡ x → ⊥) → ordered c t y ≡ t y
-beside (Strike z v) x e t y ne = fun-ext (λ w. ap (λ (b : Bool). t y w && not (b && equalZ w v)) (ne-eqb y z (λ q. ne (q ∙ some-is e))) ∙ sym (and-true (t y w)))
-beside (Narrow z lo hi) x e t y ne = fun-ext (λ w. ap (λ (b : Bool). t y w && (not b || (leZ lo w && leZ w hi))) (ne-eqb y z (λ q. ne (q ∙ some-is e))) ∙ sym (and-true (t y w)))
+beside (Strike z v) x e t y ne = fun-ext (λ w. ap (λ (b : Bool). t y w && not (b && equalZ w v)) (ne-eqb y z (λ q. ne (q ∙ some-is e))) ∙ and-true (t y w))
+beside (Narrow z lo hi) x e t y ne = fun-ext (λ w. ap (λ (b : Bool). t y w && (not b || (leZ lo w && leZ w hi))) (ne-eqb y z (λ q. ne (q ∙ some-is e))) ∙ and-true (t y w))
 beside Settle x e t y ne = refl
 beside Save x e t y ne = refl
 beside Restore x e t y ne = refl

@@ -1,24 +1,24 @@
 -- What holds while a session settles.
 use mathlib.Core.Path.{_≡_, refl, sym, ap, subst, _∙_}
-use mathlib.Core.Bool.{Bool, true, false, cond, not, _&&_, _||_}
+use mathlib.Core.Bool.{Bool, true, false, cond}
 use mathlib.Core.List.{List, [], _∷_}
-use mathlib.Core.Logic.{_⊎_, inl, inr, ⊎-elim}
-use Prim.Native.Nat.{ℕ, suc, _≤_, _<_}
+use mathlib.Core.Logic.{⊎-elim}
+use Prim.Native.Nat.{ℕ, _≤_, _<_}
 use native.Mathlib.Omega.{arith}
-use lib.Dec.{eqb, leb}
+use lib.Dec.{eqb}
 use lib.ListN.{length}
-use Rattle.std.proofs.shelf.Tests.{both-ways, cases-lt, cases-bool, cases-eq, eqb-true, ne-eqb, eq-eqb, or-from, or-left, or-right, le-leb}
+use Rattle.std.proofs.shelf.Tests.{both-ways, cases-lt, cases-eq, ne-eqb, eq-eqb, or-from, or-left, or-right, le-leb}
 use Rattle.std.specs.Results.{isOk}
 use Rattle.std.specs.declared.result.Result.{Result}
-use Rattle.std.specs.declared.result.Result.the-variants.{Ok, Err}
+use Rattle.std.specs.declared.result.Result.the-variants.{Ok}
 use Rattle.tables.specs.Tables.{Table, Shaped, isVoid, Inside}
 use Rattle.rules.specs.declared.fault.RuleFault.{RuleFault}
 use Rattle.rules.specs.Rules.{Rule, Lawful}
 use Rattle.rules.specs.declared.ran.Ran.the-variants as ran
-use Rattle.rules.specs.Banks.{called, countOf, woken, filtered, Run, Exact}
+use Rattle.rules.specs.Banks.{called, countOf, woken, filtered, Run}
 use Rattle.rules.proofs.Members.{called-past, woken-nobody}
-use Rattle.rules.proofs.Voids.{full-outside, inside-shaped, within-inside}
-use Rattle.sessions.specs.Agendas.{member, joined}
+use Rattle.rules.proofs.Voids.{inside-shaped, within-inside}
+use Rattle.sessions.specs.Agendas.{member}
 use Rattle.sessions.specs.Steps.{smaller, woke, Outcome, settled, failed, Settles, rests, fails, runs}
 use Rattle.sessions.specs.Promises.{Stable, NoStable, Greatest}
 use Rattle.sessions.proofs.Waits.{joined-from, joined-not}

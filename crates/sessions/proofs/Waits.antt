@@ -3,11 +3,11 @@ use mathlib.Core.Path.{_≡_, refl, sym, ap, ap₂, subst, _∙_}
 use mathlib.Core.Bool.{Bool, true, false, cond, not, _&&_, _||_}
 use mathlib.Core.List.{List, [], _∷_, _++_}
 use mathlib.Core.Logic.{_⊎_, inl, inr, ⊎-elim}
-use Prim.Native.Nat.{ℕ, zero, suc, _+_, _≤_, _<_}
+use Prim.Native.Nat.{ℕ, zero, suc, _<_}
 use native.Mathlib.Omega.{arith}
 use lib.Dec.{eqb}
-use lib.ListN.{length}
-use Rattle.std.proofs.shelf.Tests.{both-ways, cases-lt, cases-bool, cases-eq, eqb-true, eq-eqb, ne-eqb, and-parts, and-from, and-cases, or-cases, or-parts, or-from, or-left, or-right, not-from-false, not-false, not-true}
+use Rattle.std.proofs.shelf.Lists.{append-nil}
+use Rattle.std.proofs.shelf.Tests.{both-ways, cases-lt, cases-bool, eqb-true, eq-eqb, and-parts, and-from, or-cases, or-parts, or-left, or-right, not-from-false}
 use Rattle.sessions.specs.Agendas.{member, select, upto, joined}
 
 or-assoc : (a b c : Bool) → (a || (b || c)) ≡ ((a || b) || c)
@@ -61,10 +61,6 @@ joined-not agenda s k l h =
           (λ yes. absurd (both-ways (member k (select (λ k. s k && not (member k agenda)) 256)) (parts .1) (selects (λ k. s k && not (member k agenda)) 256 k l (and-from (s k) _ yes (not-from-false (member k agenda) (parts .0))))))
           (λ no. no) (cases-bool (s k)),
     )
-
-append-nil : (xs : List ℕ) → xs ++ [] ≡ xs
-append-nil [] = refl
-append-nil (x ∷ xs) = ap (λ ys. x ∷ ys) (append-nil xs)
 
 select-none : (p : ℕ → Bool) (n : ℕ) → ((k : ℕ) → k < n → p k ≡ false) → select p n ≡ []
 select-none p zero f = refl

@@ -1,21 +1,20 @@
 -- How many runs a settle makes.
 use mathlib.Core.Path.{_≡_, refl, sym, ap, ap₂, subst, _∙_}
 use mathlib.Core.Bool.{Bool, true, false, cond, not, _&&_, _||_}
-use mathlib.Core.List.{List, [], _∷_, _++_}
-use mathlib.Core.Logic.{_⊎_, inl, inr, ⊎-elim}
+use mathlib.Core.List.{List, [], _∷_}
+use mathlib.Core.Logic.{⊎-elim}
 use Prim.Native.Nat.{ℕ, zero, suc, _+_, _-_, _*_, _≤_, _<_}
 use native.Mathlib.Nat.{add-mul}
 use native.Mathlib.Omega.{arith}
-use lib.Dec.{ltb}
 use lib.ListN.{length}
 use Rattle.std.proofs.shelf.Bits.{mul-le}
 use Rattle.std.proofs.shelf.Lists.{length-append}
-use Rattle.std.proofs.shelf.Tests.{both-ways, cases-lt, cases-bool, and-parts, ltb-true, le-ltb, le-leb}
-use Rattle.tables.specs.Tables.{Domain, Table, sizeOf, Shaped, Inside, count}
-use Rattle.tables.proofs.Counts.{count-mono, count-ext, size-none}
+use Rattle.std.proofs.shelf.Tests.{both-ways, cases-lt, and-parts, ltb-true, le-ltb, le-leb}
+use Rattle.tables.specs.Tables.{Table, sizeOf, Shaped, Inside, count}
+use Rattle.tables.proofs.Counts.{count-mono, size-none}
 use Rattle.tables.proofs.Keeps.{nothing-outside}
 use Rattle.rules.specs.Rules.{Rule}
-use Rattle.rules.specs.Banks.{called, some, woken, nobody, countOf}
+use Rattle.rules.specs.Banks.{called, some, woken, countOf}
 use Rattle.rules.proofs.Members.{called-past}
 use Rattle.rules.proofs.Voids.{size-mono, inside-shaped}
 use Rattle.sessions.specs.Agendas.{member, select, joined}
@@ -23,7 +22,7 @@ use Rattle.sessions.specs.Steps.{smaller, woke, Outcome, settled, failed, Sett
 use Rattle.sessions.specs.Numbers.{total}
 use Rattle.sessions.specs.Promises.{watchers, lost}
 use Rattle.sessions.proofs.Counting.{total-ext}
-use Rattle.sessions.proofs.Settling.{Fair, woken-low, settles-inside}
+use Rattle.sessions.proofs.Settling.{Fair, settles-inside}
 
 -- the two ends differ
 pub failed-settled : (i : ℕ) → failed i ≡ settled → ⊥

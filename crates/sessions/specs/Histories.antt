@@ -5,7 +5,7 @@ use mathlib.Core.List.{List, [], _∷_}
 use Prim.Native.Nat.{ℕ}
 use lib.Dec.{eqb}
 use lib.ListN.{length}
-use Rattle.std.specs.declared.option.Option.the-variants.{Some, None}
+use Rattle.std.specs.declared.option.Option.the-variants.{None}
 use Rattle.tables.specs.Tables.{Table, Shaped}
 use Rattle.rules.specs.Rules.{Rule}
 use Rattle.sessions.specs.declared.standing.Standing.the-variants as standing

@@ -4,7 +4,6 @@ use mathlib.Core.Bool.{Bool, true, false}
 use mathlib.Core.List.{List, [], _∷_}
 use Prim.Native.Nat.{ℕ, zero, suc, _+_, _-_}
 use lib.Dec.{eqb, ltb}
-use Rattle.std.specs.declared.option.Option.{Option}
 use Rattle.std.specs.declared.option.Option.the-variants.{Some, None}
 use Rattle.tables.specs.Tables.{Table, sizeOf}
 use Rattle.tables.specs.Stores.{newest, older}
@@ -13,7 +12,7 @@ use Rattle.rules.specs.declared.ran.Ran.the-variants as ran
 use Rattle.rules.specs.Banks.{called, woken, Run}
 use Rattle.sessions.specs.declared.standing.Standing.the-variants as standing
 use Rattle.sessions.specs.declared.call.Call.{Call}
-use Rattle.sessions.specs.declared.call.Call.the-variants.{Strike, Narrow, Settle, Save, Restore}
+use Rattle.sessions.specs.declared.call.Call.the-variants.{Settle, Save, Restore}
 use Rattle.sessions.specs.declared.answer.Answer.{Answer}
 use Rattle.sessions.specs.declared.answer.Answer.the-variants.{Done, Emptied, Settled, Failed, Refused}
 use Rattle.sessions.specs.declared.fault.SessionFault.{SessionFault}

@@ -1,6 +1,6 @@
 -- What a keep does to a table.
-use mathlib.Core.Path.{_≡_, refl, sym, ap, ap₂, fun-ext, _∙_}
-use mathlib.Core.Bool.{Bool, true, false, not, _&&_, _||_}
+use mathlib.Core.Path.{_≡_, sym, ap, ap₂, fun-ext, _∙_}
+use mathlib.Core.Bool.{Bool, false, not, _&&_, _||_}
 use mathlib.Core.List.{List}
 use mathlib.Core.Logic.{⊎-elim}
 use Prim.Native.Nat.{ℕ, _≤_}
@@ -8,14 +8,11 @@ use native.Mathlib.Omega.{arith}
 use lib.Dec.{eqb, ltb}
 use lib.IntN.{ℤ}
 use Rattle.std.proofs.shelf.Tests.{cases-eq, cases-bool, eq-eqb, ne-eqb}
+use Rattle.tables.proofs.Truths.{and-true}
 use Rattle.tables.specs.Rows.{inRow}
 use Rattle.tables.specs.Tables.{Domain, Table, sizeOf, Shaped, kept}
 use Rattle.tables.specs.declared.kept.Kept.{Kept}
 use Rattle.tables.specs.Stores.{answerKeep}
-
-and-true : (b : Bool) → (b && true) ≡ b
-and-true true = refl
-and-true false = refl
 
 -- the variable's own domain
 pub kept-here : (x : ℕ) (row : List ℕ) (t : Table) (y : ℕ) (v : ℤ) → y ≡ x → kept x row t y v ≡ (t y v && inRow row v)

@@ -1,3 +1,4 @@
+pub mod Truths
 pub mod Words
 pub mod Zeros
 pub mod Places

@@ -1,6 +1,4 @@
-use mathlib.Core.Path.{sym}
 use borrow.Author.Needs.{needs}
-use native.Mathlib.Omega.{arith}
 use Rattle.rules.specs.Banks.{inSet}
 use Rattle.rules.proofs.Members.{woken-all}
 use Rattle.rules.proofs.bank.Bank.woken.Needs as need

@@ -1,4 +1,3 @@
-use borrow.Author.Needs.{needs}
 use Rattle.session.proofs.Promised.{begins-keeps}
 use Rattle.session.proofs.state.Session.begin.Needs as need
 

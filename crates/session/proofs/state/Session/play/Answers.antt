@@ -1,11 +1,8 @@
-use mathlib.Core.Path.{_≡_, refl, sym, ap, subst, _∙_}
-use mathlib.Core.List.{List}
-use Prim.Native.Nat.{ℕ, min, _<_, _≤_}
+use mathlib.Core.Path.{_≡_, refl, subst, _∙_}
 use native.Mathlib.Omega.{arith}
 use borrow.Author.Needs.{needs}
-use lib.ListN.{length, drop}
+use lib.ListN.{drop}
 use Rattle.std.proofs.shelf.Lists.{length-set}
-use Rattle.tables.specs.Stores.{Frame}
 use Rattle.sessions.specs.Histories.{Leads, stays}
 use Rattle.session.specs.Meaning.{world, events}
 use Rattle.session.proofs.Playing.{leads-more, rest-same}

@@ -1,5 +1,4 @@
-use mathlib.Core.Path.{_≡_, refl, sym, subst, _∙_}
-use Prim.Native.Nat.{ℕ, _+_}
+use mathlib.Core.Path.{refl, sym, subst, _∙_}
 use native.Mathlib.Nat.{zero-add, add-zero}
 use Rattle.tables.specs.Stores.{Frame}
 use Rattle.rules.specs.Banks.{called, Run}
