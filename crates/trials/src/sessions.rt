@@ -345,6 +345,15 @@ fn saves_made_before_the_session() -> Result<(), Fail> {
     go(&mut session, &mut store, &bank, &events)?;
     check_eq(store.size(0), 1023)?;
     check_eq(store.restore(), Ok(()))?;
+    check_eq(store.size(0), 1024)?;
+    // A save that the store gave back behind the session's back: the store's own refusal passes up, each time.
+    let save = [(Call::Save, Answer::Done)];
+    go(&mut session, &mut store, &bank, &save)?;
+    check_eq(store.restore(), Ok(()))?;
+    let gone = SessionFault::Store(StoreFault::NoSave);
+    check_eq(gone.number(), 13)?;
+    let refused = (Call::Restore, Answer::Refused(gone));
+    go(&mut session, &mut store, &bank, &[refused, refused])?;
     check_eq(store.size(0), 1024)
 }
 
