@@ -1,4 +1,6 @@
 // The rules that wait for a run, first come first, none twice.
+#![tactic(auto)]
+
 ghost use Rattle.std.specs.Prelude.{◌≡◌, ℕ, ◌+◌, ◌%◌, ◌<◌, min, Bool, true, false, not, ◌&&◌, [], ◌∷◌, ◌++◌, MatchOption, ◌==◌};
 ghost use Rattle.rules.specs.Banks.{in_set};
 ghost use Rattle.sessions.specs.Agendas.{member, upto, joined};

@@ -1,4 +1,6 @@
 // A store of tables that saves by copying, in words that the caller lends.
+#![tactic(auto)]
+
 ghost use Rattle.std.specs.Prelude.{◌≡◌, ◌+◌, ◌-◌, ◌<◌, ◌≤◌, false, not, ◌∷◌, length, is_ok, if◌then◌else◌, OnErr, ◌≢◌, nat_lt};
 ghost use Rattle.tables.specs.Stores.{answer_keep, answer_save, answer_restore, newest, older};
 ghost use Rattle.tables.specs.Tables.{kept};

@@ -1,4 +1,6 @@
 // The bank of the rules T[y] = z and T[x][y] = z.
+#![tactic(auto)]
+
 ghost use Rattle.std.specs.Prelude.{◌≡◌};
 ghost use Rattle.elements.specs.Meaning.{rules_of};
 

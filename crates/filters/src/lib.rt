@@ -1,4 +1,6 @@
 // What the filters of every bank are made of: the ends of a domain, and a run that narrows one domain after another.
+#![tactic(auto)]
+
 ghost use Rattle.std.specs.Prelude.{◌≡◌, ℕ, true, not, ◌&&◌, ◌||◌, pos, negsuc, ◌≤ℤ◌, IfSome, MatchOption, ◌==◌, nat_lt};
 ghost use Rattle.tables.specs.Tables.{Table, size_of, kept};
 ghost use Rattle.rules.specs.Banks.{in_set};

@@ -1,4 +1,6 @@
 // The bank of the rules x = y + c, filtered by values.
+#![tactic(auto)]
+
 ghost use Rattle.std.specs.Prelude.{◌≡◌, ℕ, true, false, ◌&&◌, ◌||◌, length, ℤ, ◌+ℤ◌, ◌-ℤ◌, is_ok, Ok, ◌==◌, nat_lt, slice_index_or};
 ghost use Rattle.tables.specs.Rows.{in_row};
 ghost use Rattle.rules.specs.Banks.{in_set, nothing, nobody, called, Run};

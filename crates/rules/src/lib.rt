@@ -1,4 +1,6 @@
 // Rules, the interface of a bank of rules, and two banks joined.
+#![tactic(auto)]
+
 pub mod bank;
 pub mod fault;
 mod found;

@@ -1,4 +1,6 @@
 // A session: orders are given, rules are run until none removes more, and tables are saved and taken back.
+#![tactic(auto)]
+
 ghost use Rattle.std.specs.Prelude.{◌≡◌, ◌≤◌, min, true, false, not, ◌&&◌, [], length, drop, is_ok, if◌then◌else◌, Some, None, Option, OnErr, ◌==◌, int_le, nat_eq, nat_lt};
 ghost use Rattle.tables.specs.Values.{is_value};
 ghost use Rattle.tables.specs.Tables.{is_void, kept, size_of};

@@ -1,4 +1,6 @@
 // What a session of a filtering kernel is: its calls and answers, and what holds after every list of calls.
+#![tactic(auto)]
+
 pub mod answer;
 pub mod call;
 pub mod fault;

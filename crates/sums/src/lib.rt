@@ -1,4 +1,6 @@
 // The bank of the rules that a sum of signed variables and a constant is 0, filtered by bounds.
+#![tactic(auto)]
+
 ghost use Rattle.std.specs.Prelude.{◌≡◌};
 
 pub mod bank;

@@ -1,5 +1,5 @@
 -- Counts over the numbers below a bound, and the sizes of domains.
-use Rattle.std.proofs.Common.{◌≡◌, ℕ, zero, suc, ◌+◌, ◌-◌, ◌*◌, ◌^◌, ◌<◌, ◌≤◌, Bool, true, false, cond, not, ◌⊎◌, List, get_or, ℤ, sym, refl, ap, ◌∙◌, subst, ap₂, ⊎_elim, add-zero, add-suc, mod-eq_of_lt, arith}
+use Rattle.std.proofs.Common.{◌≡◌, ℕ, zero, suc, ◌+◌, ◌-◌, ◌*◌, ◌^◌, ◌<◌, ◌≤◌, Bool, true, false, cond, List, get_or, ℤ, sym, refl, ap, ◌∙◌, subst, ap₂, ⊎_elim, add-zero, add-suc, mod-eq_of_lt, arith}
 use lib.Count.{ones}
 use Rattle.std.proofs.lemmas.Bool.{both_ways, cases_lt}
 use Rattle.tables.specs.Values.{is_value, place, value_at}

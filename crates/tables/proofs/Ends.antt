@@ -1,5 +1,5 @@
 -- From the first and the last place of a row to the next and the last value of its domain.
-use Rattle.std.proofs.Common.{◌≡◌, ℕ, ◌-◌, ◌<◌, ◌≤◌, true, false, ltb, List, ℤ, pos, negsuc, ◌-ℤ◌, ◌≤ℤ◌, IfSome, Some, None, Option, sym, ap, ◌∙◌, ⊎_elim, arith, w32, to_z, of_z}
+use Rattle.std.proofs.Common.{◌≡◌, ℕ, ◌<◌, ◌≤◌, true, false, ltb, List, ℤ, pos, negsuc, ◌-ℤ◌, ◌≤ℤ◌, IfSome, Some, None, Option, sym, ap, ◌∙◌, ⊎_elim, arith, w32, to_z, of_z}
 use lib.Signed.{le_z, lt_z}
 use Rattle.std.proofs.lemmas.Int.{ints}
 use Rattle.std.proofs.lemmas.Bool.{cases_lt, lt-ltb, le-ltb, ltb-false, ltb-true, and_parts, both_ways}

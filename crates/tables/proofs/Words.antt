@@ -1,5 +1,5 @@
 -- The bits of one word: of 0, of a mask, of the operations on words, and that the bits fix the word.
-use Rattle.std.proofs.Common.{◌≡◌, ℕ, zero, suc, ◌+◌, ◌-◌, ◌*◌, ◌/◌, ◌%◌, ◌^◌, ◌<◌, ◌≤◌, Bool, true, false, cond, not, ◌&&◌, ◌||◌, eqb, ltb, ◌⊎◌, sym, refl, ap, ◌∙◌, subst, ap₂, inl, inr, ⊎_elim, mod-eq_of_lt, mul_comm, pow-suc, arith, pow_mono, shr_lt}
+use Rattle.std.proofs.Common.{◌≡◌, ℕ, zero, suc, ◌+◌, ◌-◌, ◌*◌, ◌/◌, ◌%◌, ◌^◌, ◌<◌, ◌≤◌, Bool, true, false, cond, not, ◌&&◌, ◌||◌, eqb, ltb, sym, refl, ap, ◌∙◌, subst, ap₂, inl, inr, ⊎_elim, mod-eq_of_lt, mul_comm, pow-suc, arith, pow_mono, shr_lt}
 use native.Mathlib.Nat.{div-eq_of_lt, mul-sub}
 use lib.Bits.{bit_and, bit_or, and_shr, and_mod, or_shr, or_mod, and_zero_l, or_zero_l}
 use lib.Pow.{ones_split, high, split, pow-lt}

@@ -1,4 +1,6 @@
 // Tables of finite domains: their rows, the interfaces of a store, and what a store refuses.
+#![tactic(auto)]
+
 pub mod domains;
 pub mod fault;
 pub mod kept;

@@ -1,4 +1,6 @@
 // A clerk's afternoon: a cabinet is ordered, choices are made, taken back and made otherwise, and after each call the values left are shown.
+#![tactic(auto)]
+
 ghost use Rattle.std.specs.Prelude.{◌≡◌, true, false, ℤ, pos, ◌+ℤ◌, ◌≤ℤ◌};
 
 use copying::Copying;

@@ -1,4 +1,6 @@
 // What a caller knows of the words that it lent, and the edges of every limit, which the tests run.
+#![tactic(auto)]
+
 ghost use Rattle.std.specs.Prelude.{◌≡◌, not, length, drop, if◌then◌else◌, Ok, Err, MatchResult, ◌==◌, nat_lt};
 ghost use Rattle.tables.specs.declared.fault.StoreFault.TheVariants.{Full, Limits};
 ghost use Rattle.tables.specs.Stores.{answer_keep};

@@ -12,13 +12,13 @@ use Rattle.tables.proofs.rows.count_words.Goals as goal
 all_words : (m len p : ℕ) → (m < len → 16 ≤ m) → 64 * m ≤ p → p < 1024 → 64 * len ≤ p
 all_words m len p f h l = ⊎_elim (λ q. absurd (omega (arith, f q))) (λ q. omega arith) (cases_lt m len)
 
-pub overflow-cast-total : goal.overflow-cast-total
-overflow-cast-total c =
+pub overflow_cast-total : goal.overflow_cast-total
+overflow_cast-total c =
     let few = ones-le 64 (get_or c.args.row.now c.loop-j.j 0) (search rules) in
     search rules
 
-pub overflow-add-total : goal.overflow-add-total
-overflow-add-total c =
+pub overflow_add-total : goal.overflow_add-total
+overflow_add-total c =
     let few = ones-le 64 (get_or c.args.row.now c.loop-j.j 0) (search rules) in
     let all = count_le (at_place c.args.row.now) (64 * c.loop-j.j) in
     let inv : c.loop-j.total ≡ count (at_place c.args.row.now) (64 * c.loop-j.j) = c.loop-j.invariant in

@@ -29,9 +29,9 @@ loop-j-preserved c = (
   below_more _ _
       (λ i h k l. let ne : i ≢ c.loop-j.j = omega arith in ap (λ w. bit w k) (get_or-set_other c.loop-j.row c.loop-j.j i _ 0 ne) ∙ c.loop-j.invariant.1 i h k l)
       (λ k l. ap (λ w. bit w k) (get_or-set_same c.loop-j.row c.loop-j.j _ 0 (omega arith))
-      ∙ word c.low-bits.result c.low-bits-in-loop-j.result c.loop-j.j k c.places-below-start.result c.places-upto-end.result l c.low-bits-in-loop-j.type-inv
-      (c.low-bits.ensures k l ∙ ap (ltb k) c.saturating-sub.ensures)
-      (c.low-bits-in-loop-j.ensures k l ∙ ap (ltb k) c.saturating-sub-in-loop-j.ensures)),
+      ∙ word c.low_bits.result c.low_bits-in-loop-j.result c.loop-j.j k c.places_below-start.result c.places_upto-end.result l c.low_bits-in-loop-j.type_inv
+      (c.low_bits.ensures k l ∙ ap (ltb k) c.saturating_sub.ensures)
+      (c.low_bits-in-loop-j.ensures k l ∙ ap (ltb k) c.saturating_sub-in-loop-j.ensures)),
 )
 
 not_under : (u v : ℤ) → not (lt_z u v) ≡ le_z v u
@@ -48,8 +48,8 @@ returns c v =
     let lo = c.ranges.lo in
     let hi = c.ranges.hi in
     let full : c.loop-j.j ≡ 16 = omega arith in
-    row_by_words c.loop-j.row (λ p. ltb p c.places-upto-end.result && not (ltb p c.places-below-start.result)) (λ j k h l. c.loop-j.invariant.1 j (omega arith) k l) v
+    row_by_words c.loop-j.row (λ p. ltb p c.places_upto-end.result && not (ltb p c.places_below-start.result)) (λ j k h l. c.loop-j.invariant.1 j (omega arith) k l) v
     ∙ under (is_value v) _ _ (λ h.
-    ap₂ (λ (a b : Bool). a && not b) (simp to_z-of_z at (c.places-upto-end.ensures.tells v h)) (simp to_z-of_z at (c.places-below-start.ensures.tells v h))
+    ap₂ (λ (a b : Bool). a && not b) (simp to_z-of_z at (c.places_upto-end.ensures.tells v h)) (simp to_z-of_z at (c.places_below-start.ensures.tells v h))
     ∙ ap (λ (b : Bool). le_z v c.args.hi && b) (not_under v c.args.lo)
     ∙ swap (le_z v c.args.hi) (le_z c.args.lo v))

@@ -8,9 +8,9 @@ use Rattle.tables.proofs.rows.last.Goals as goal
 pub returns-in-Some : goal.returns-in-Some
 returns-in-Some c =
     let fits = c.ranges.upto in
-    let small = c.places-upto.ensures.small in
+    let small = c.places_upto.ensures.small in
     let found = c.in-Some.ensures in
     let greatest =
     subst (Greatest (in_row c.args.row.now) c.args.upto) (value_of c.in-Some.p (omega (arith, found.0)))
-    (last_value c.args.row.now c.args.upto c.places-upto.result c.in-Some.p small (simp to_z-of_z at c.places-upto.ensures.tells) found) in
+    (last_value c.args.row.now c.args.upto c.places_upto.result c.in-Some.p small (simp to_z-of_z at c.places_upto.ensures.tells) found) in
     record { value = greatest; bounds = last_bounds c.args.row.now c.args.upto (Some _) greatest }

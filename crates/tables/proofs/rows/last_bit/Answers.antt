@@ -28,7 +28,7 @@ final w m end b l e ne =
 
 pub returns-then-rest-eq0 : goal.returns-then-rest-eq0
 returns-then-rest-eq0 c k h =
-    lacks c.args.word c.low-bits.result c.args.end k (search rules) c.low-bits.ensures h (ap (λ n. bit n k) c.if-rest-eq0.true ∙ bit_zero k)
+    lacks c.args.word c.low_bits.result c.args.end k (search rules) c.low_bits.ensures h (ap (λ n. bit n k) c.if-rest-eq0.true ∙ bit_zero k)
 
 pub returns : goal.returns
-returns c = final c.args.word c.low-bits.result c.args.end (search rules) c.low-bits.type-inv c.low-bits.ensures c.if-rest-eq0.false
+returns c = final c.args.word c.low_bits.result c.args.end (search rules) c.low_bits.type_inv c.low_bits.ensures c.if-rest-eq0.false

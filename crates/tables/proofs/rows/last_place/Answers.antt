@@ -25,5 +25,5 @@ pub returns-in-Some : goal.returns-in-Some
 returns-in-Some c =
     let e : c.loop-j.j - 1 + 1 ≡ c.loop-j.j = omega arith in
     found c.args.row.now (c.loop-j.j - 1) c.in-Some.k c.args.end (search rules)
-    (subst (λ n. Final (bit (get_or c.args.row.now (c.loop-j.j - 1) 0)) n (Some c.in-Some.k)) c.saturating-sub.ensures c.in-Some.ensures)
+    (subst (λ n. Final (bit (get_or c.args.row.now (c.loop-j.j - 1) 0)) n (Some c.in-Some.k)) c.saturating_sub.ensures c.in-Some.ensures)
     (λ p h l. c.loop-j.invariant.2 p (omega arith) l)

@@ -11,5 +11,5 @@ returns-in-Some c =
     let found = c.in-Some.ensures in
     let least =
     subst (Least (in_row c.args.row.now) c.args.from) (value_of c.in-Some.p found.1)
-    (next_value c.args.row.now c.args.from c.places-below.result c.in-Some.p (simp to_z-of_z at c.places-below.ensures.tells) found) in
+    (next_value c.args.row.now c.args.from c.places_below.result c.in-Some.p (simp to_z-of_z at c.places_below.ensures.tells) found) in
     record { value = least; bounds = next_bounds c.args.row.now c.args.from (Some _) least }

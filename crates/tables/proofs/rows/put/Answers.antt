@@ -1,4 +1,4 @@
-use Rattle.std.proofs.Common.{◌≡◌, ◌-◌, ◌/◌, Bool, ◌||◌, length, get_or, arith, rules}
+use Rattle.std.proofs.Common.{◌≡◌, ◌/◌, Bool, ◌||◌, length, get_or, arith, rules}
 use lib.Bits.{bit_or}
 use Rattle.tables.proofs.Places.{place_below, one_changed, split_or, at_put}
 use Rattle.tables.proofs.rows.put.Goals as goal

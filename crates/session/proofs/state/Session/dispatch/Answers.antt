@@ -9,8 +9,8 @@ returns-in-Strike g c =
     let fits : SFits w32 c.in-Strike.v = search rules in
     let call = c.in-Strike.is ∙ ap (λ (v : ℤ). Strike c.in-Strike.x v) (sym (to_z-of_z w32 c.in-Strike.v fits)) in
     record {
-      step = answered (g.S.Domains.frame c.args.store.now) (g.B.Bank.rules c.args.bank.now) _ _ call c.of-order.ensures c.strike.ensures.step;
-      refused = order_granted _ c.strike.result c.of-order.result c.of-order.ensures c.strike.ensures.refused;
+      step = answered (g.S.Domains.frame c.args.store.now) (g.B.Bank.rules c.args.bank.now) _ _ call c.of_order.ensures c.strike.ensures.step;
+      refused = order_granted _ c.strike.result c.of_order.result c.of_order.ensures c.strike.ensures.refused;
       same-frame = c.strike.ensures.same-frame;
     }
 
@@ -20,31 +20,31 @@ returns-in-Narrow g c =
     let high : SFits w32 c.in-Narrow.hi = search rules in
     let call = c.in-Narrow.is ∙ ap₂ (λ (lo hi : ℤ). Narrow c.in-Narrow.x lo hi) (sym (to_z-of_z w32 c.in-Narrow.lo low)) (sym (to_z-of_z w32 c.in-Narrow.hi high)) in
     record {
-      step = answered (g.S.Domains.frame c.args.store.now) (g.B.Bank.rules c.args.bank.now) _ _ call c.of-order-in-Narrow.ensures c.narrow.ensures.step;
-      refused = order_granted _ c.narrow.result c.of-order-in-Narrow.result c.of-order-in-Narrow.ensures c.narrow.ensures.refused;
+      step = answered (g.S.Domains.frame c.args.store.now) (g.B.Bank.rules c.args.bank.now) _ _ call c.of_order-in-Narrow.ensures c.narrow.ensures.step;
+      refused = order_granted _ c.narrow.result c.of_order-in-Narrow.result c.of_order-in-Narrow.ensures c.narrow.ensures.refused;
       same-frame = c.narrow.ensures.same-frame;
     }
 
 pub returns-in-Settle : goal.returns-in-Settle
 returns-in-Settle g c =
     record {
-      step = answered (g.S.Domains.frame c.args.store.now) (g.B.Bank.rules c.args.bank.now) _ _ c.in-Settle.is c.of-settle.ensures c.settle.ensures.step;
-      refused = settle_granted _ c.settle.result c.of-settle.result c.of-settle.ensures c.settle.ensures.refused;
+      step = answered (g.S.Domains.frame c.args.store.now) (g.B.Bank.rules c.args.bank.now) _ _ c.in-Settle.is c.of_settle.ensures c.settle.ensures.step;
+      refused = settle_granted _ c.settle.result c.of_settle.result c.of_settle.ensures c.settle.ensures.refused;
       same-frame = c.settle.ensures.same-frame;
     }
 
 pub returns-in-Save : goal.returns-in-Save
 returns-in-Save g c =
     record {
-      step = answered (g.S.Domains.frame c.args.store.now) (g.B.Bank.rules c.args.bank.now) _ _ c.in-Save.is c.of-plain.ensures c.save.ensures.step;
-      refused = plain_granted _ c.save.result c.of-plain.result c.of-plain.ensures c.save.ensures.refused;
+      step = answered (g.S.Domains.frame c.args.store.now) (g.B.Bank.rules c.args.bank.now) _ _ c.in-Save.is c.of_plain.ensures c.save.ensures.step;
+      refused = plain_granted _ c.save.result c.of_plain.result c.of_plain.ensures c.save.ensures.refused;
       same-frame = c.save.ensures.same-frame;
     }
 
 pub returns-in-Restore : goal.returns-in-Restore
 returns-in-Restore g c =
     record {
-      step = answered (g.S.Domains.frame c.args.store.now) (g.B.Bank.rules c.args.bank.now) _ _ c.in-Restore.is c.of-plain-in-Restore.ensures c.restore.ensures.step;
-      refused = plain_granted _ c.restore.result c.of-plain-in-Restore.result c.of-plain-in-Restore.ensures c.restore.ensures.refused;
+      step = answered (g.S.Domains.frame c.args.store.now) (g.B.Bank.rules c.args.bank.now) _ _ c.in-Restore.is c.of_plain-in-Restore.ensures c.restore.ensures.step;
+      refused = plain_granted _ c.restore.result c.of_plain-in-Restore.result c.of_plain-in-Restore.ensures c.restore.ensures.refused;
       same-frame = c.restore.ensures.same-frame;
     }

@@ -11,10 +11,10 @@ returns g c =
     let b = c.args.bank.now in
     let lows = c.ranges.lo in
     let highs = c.ranges.hi in
-    let good = simp to_z-of_z at c.is-range.ensures in
+    let good = simp to_z-of_z at c.is_range.ensures in
     let has = simp to_z-of_z at c.interval-row.ensures in
     let call = Narrow c.args.x c.args.lo c.args.hi in
-    let step = c.order.ensures.step call (is_narrow (g.S.Domains.frame s).vars c.args.x c.args.lo c.args.hi c.interval-row.result (g.S.Domains.table s) c.is-range.result (g.S.Domains.shaped s) good has) in
+    let step = c.order.ensures.step call (is_narrow (g.S.Domains.frame s).vars c.args.x c.args.lo c.args.hi c.interval-row.result (g.S.Domains.table s) c.is_range.result (g.S.Domains.shaped s) good has) in
     record {
       step = step;
       promises = step_keeps (g.S.Domains.frame s) (g.B.Bank.rules b) (g.S.Domains.few s) (g.B.Bank.lawful b) call (answer_of_order c.order.result) _ _ step;

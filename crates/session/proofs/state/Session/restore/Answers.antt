@@ -8,10 +8,10 @@ pub returns : goal.returns
 returns g c =
     let s = c.args.store.now in
     let b = c.args.bank.now in
-    let step = restore_step (g.S.Domains.frame s) (g.B.Bank.rules b) _ _ c.try-restore.result c.try-restore.ensures.answer c.try-restore.ensures.after in
+    let step = restore_step (g.S.Domains.frame s) (g.B.Bank.rules b) _ _ c.try_restore.result c.try_restore.ensures.answer c.try_restore.ensures.after in
     record {
       step = step;
-      promises = step_keeps (g.S.Domains.frame s) (g.B.Bank.rules b) (g.S.Domains.few s) (g.B.Bank.lawful b) Restore (answer_of_plain c.try-restore.result) _ _ step;
-      refused = c.try-restore.ensures.refused;
-      same-frame = c.try-restore.ensures.same-frame;
+      promises = step_keeps (g.S.Domains.frame s) (g.B.Bank.rules b) (g.S.Domains.few s) (g.B.Bank.lawful b) Restore (answer_of_plain c.try_restore.result) _ _ step;
+      refused = c.try_restore.ensures.refused;
+      same-frame = c.try_restore.ensures.same-frame;
     }

@@ -8,10 +8,10 @@ pub returns : goal.returns
 returns g c =
     let s = c.args.store.now in
     let b = c.args.bank.now in
-    let step = save_step (g.S.Domains.frame s) (g.B.Bank.rules b) _ _ c.try-save.result c.try-save.ensures.answer c.try-save.ensures.after in
+    let step = save_step (g.S.Domains.frame s) (g.B.Bank.rules b) _ _ c.try_save.result c.try_save.ensures.answer c.try_save.ensures.after in
     record {
       step = step;
-      promises = step_keeps (g.S.Domains.frame s) (g.B.Bank.rules b) (g.S.Domains.few s) (g.B.Bank.lawful b) Save (answer_of_plain c.try-save.result) _ _ step;
-      refused = c.try-save.ensures.refused;
-      same-frame = c.try-save.ensures.same-frame;
+      promises = step_keeps (g.S.Domains.frame s) (g.B.Bank.rules b) (g.S.Domains.few s) (g.B.Bank.lawful b) Save (answer_of_plain c.try_save.result) _ _ step;
+      refused = c.try_save.ensures.refused;
+      same-frame = c.try_save.ensures.same-frame;
     }

@@ -7,10 +7,10 @@ pub returns : goal.returns
 returns g c =
     let s = c.args.store.now in
     let b = c.args.bank.now in
-    let step = c.try-settle.ensures.step in
+    let step = c.try_settle.ensures.step in
     record {
       step = step;
-      promises = step_keeps (g.S.Domains.frame s) (g.B.Bank.rules b) (g.S.Domains.few s) (g.B.Bank.lawful b) Settle (answer_of_settle c.try-settle.result) _ _ step;
-      refused = c.try-settle.ensures.refused;
-      same-frame = c.try-settle.ensures.same-frame;
+      promises = step_keeps (g.S.Domains.frame s) (g.B.Bank.rules b) (g.S.Domains.few s) (g.B.Bank.lawful b) Settle (answer_of_settle c.try_settle.result) _ _ step;
+      refused = c.try_settle.ensures.refused;
+      same-frame = c.try_settle.ensures.same-frame;
     }

@@ -24,8 +24,8 @@ returns-in-Failed g c =
       same-frame = refl;
     }
 
-pub overflow-sub-result : goal.overflow-sub-result
-overflow-sub-result g c = less (g.S.Domains.frame c.args.store.now) (g.S.Domains.frame c.propagate.new.store) (g.S.Domains.table c.args.store.now) (g.S.Domains.table c.propagate.new.store) c.total-before.result c.total.result c.propagate.ensures.same-frame (settles_inside c.propagate.ensures.settles) c.total-before.ensures.value c.total.ensures.value
+pub overflow_sub-result : goal.overflow_sub-result
+overflow_sub-result g c = less (g.S.Domains.frame c.args.store.now) (g.S.Domains.frame c.propagate.new.store) (g.S.Domains.table c.args.store.now) (g.S.Domains.table c.propagate.new.store) c.total-before.result c.total.result c.propagate.ensures.same-frame (settles_inside c.propagate.ensures.settles) c.total-before.ensures.value c.total.ensures.value
 
 pub returns-in-Settled : goal.returns-in-Settled
 returns-in-Settled g c =
