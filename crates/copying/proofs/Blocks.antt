@@ -4,7 +4,6 @@ use mathlib.Core.Path.{fun_ext}
 use Rattle.std.proofs.lemmas.Nat.{mul-le}
 use Rattle.std.proofs.lemmas.List.{get_or-take, get_or-drop, get_or_append_left, get_or-append_right, length-take, length-drop, length-append, ext_get_or}
 use Rattle.std.proofs.lemmas.Bool.{cases_lt, lt-ltb, le-ltb, cond-true, cond-false}
-use Rattle.tables.specs.Values.{place}
 use Rattle.tables.specs.Rows.{in_row}
 use Rattle.tables.specs.Tables.{Table}
 use Rattle.copying.specs.Memory.{need, row_in, row_at, table_in, saved_in, written, frame_in}

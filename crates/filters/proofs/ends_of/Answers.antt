@@ -15,11 +15,11 @@ held v a b = omega (arith, ints)
 bound : (v : ℤ) → negsuc 511 ≤ℤ v → v ≤ℤ pos 511 → (negsuc 511 ≤ℤ to_z w32 (of_z w32 v)) × (to_z w32 (of_z w32 v) ≤ℤ pos 511)
 bound v a b = (omega (arith, ints), omega (arith, ints))
 
-pub returns-in-default : goal.returns-in-default
-returns-in-default g c = record { value = size_none (g.S.Domains.table c.args.store.now c.args.x) (λ v h. c.in-default.ensures.value v (value_low v h)); bounds = tt }
+pub returns-in_default : goal.returns-in_default
+returns-in_default g c = record { value = size_none (g.S.Domains.table c.args.store.now c.args.x) (λ v h. c.in_default.ensures.value v (value_low v h)); bounds = tt }
 
-pub returns-in-default-last : goal.returns-in-default-last
-returns-in-default-last g c = record { value = size_none (g.S.Domains.table c.args.store.now c.args.x) (λ v h. c.in-default-last.ensures.value v (value_high v h)); bounds = tt }
+pub returns-in_default-last : goal.returns-in_default-last
+returns-in_default-last g c = record { value = size_none (g.S.Domains.table c.args.store.now c.args.x) (λ v h. c.in_default-last.ensures.value v (value_high v h)); bounds = tt }
 
 pub returns : goal.returns
 returns g c =

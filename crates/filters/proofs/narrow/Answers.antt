@@ -15,6 +15,6 @@ returns g c =
       left = empty;
       noted = noted;
       running = λ found run some. running_more _ (g.S.Domains.few store) (g.S.Domains.table store) (g.S.Domains.shaped store) c.args.x c.args.row _ c.keep-kept.ensures.after found c.args.smaller.now _ run (sym empty ∙ some) noted;
-      same-saved = c.keep-kept.ensures.same-saved;
-      same-frame = c.keep-kept.ensures.same-frame;
+      same_saved = c.keep-kept.ensures.same_saved;
+      same_frame = c.keep-kept.ensures.same_frame;
     }

@@ -17,4 +17,4 @@ loop-w-preserved g c = elim c.if-has.branch [
 ]
 
 pub returns : goal.returns
-returns g c = let all = walk_all _ (g.S.Domains.table c.args.store.now) (g.S.Domains.shaped c.args.store.now) c.args.o.x c.args.o.y c.args.o.c _ c.loop-w.x c.loop-w.y c.loop-w.invariant c.in-default.ensures.value in record { x = all.0; y = all.1 }
+returns g c = let all = walk_all _ (g.S.Domains.table c.args.store.now) (g.S.Domains.shaped c.args.store.now) c.args.o.x c.args.o.y c.args.o.c _ c.loop-w.x c.loop-w.y c.loop-w.invariant c.in_default.ensures.value in record { x = all.0; y = all.1 }

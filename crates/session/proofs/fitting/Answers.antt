@@ -17,7 +17,7 @@ loop-rule-preserved g c rest =
     let n = count_few rules c.requires.few in
     let told = c.rules-rule-end.ensures.value in
     let below = c.loop-rule-test.true in
-    c.loop-rule.invariant rest ∙ unfit_next c.args.n c.loop-rule.rule rules rest tt c.requires.few (omega arith) (sym c.fit.ensures ∙ c.in-default.is)
+    c.loop-rule.invariant rest ∙ unfit_next c.args.n c.loop-rule.rule rules rest tt c.requires.few (omega arith) (sym c.fit.ensures ∙ c.in_default.is)
 
 pub returns : goal.returns
 returns g c rest =

@@ -17,8 +17,8 @@ returns-then-x-self c =
     record {
       after = kept_outside s.n c.args.x c.args.row t shaped out;
       answer = kept_is _ _ (sym (le-ltb _ _ (omega arith))) (sym (eq-eqb _ _ none));
-      same-saved = refl;
-      same-frame = refl;
+      same_saved = refl;
+      same_frame = refl;
       outside = λ h. refl;
       memory = (sym (cond-false (ltb c.args.x s.n) _ _ (le-ltb c.args.x s.n out)), refl);
     }

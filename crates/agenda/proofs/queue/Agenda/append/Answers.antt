@@ -21,4 +21,4 @@ loop-rule-preserved c =
     (omega arith, c.push.ensures ∙ join_more (in_set c.args.new) (waits c.args.self.now) (waits c.loop-rule.self) c.loop-rule.from c.in-Some.rule c.loop-rule.invariant.1 found.0 found.2 found.3)
 
 pub returns : goal.returns
-returns c s made = c.loop-rule.invariant.1 ∙ join_all c.args.new (waits c.args.self.now) c.loop-rule.from c.loop-rule.invariant.0 c.in-default.ensures s made
+returns c s made = c.loop-rule.invariant.1 ∙ join_all c.args.new (waits c.args.self.now) c.loop-rule.from c.loop-rule.invariant.0 c.in_default.ensures s made

@@ -6,8 +6,8 @@ use Rattle.copying.proofs.store.Copying.copy.Goals as goal
 pub loop-k-init : goal.loop-k-init
 loop-k-init c =
     let s = c.args.self.now in
-    let p = block_room s.n c.args.from s.most c.requires.from-within in
-    let q = block_room s.n c.args.to s.most c.requires.to-within in
+    let p = block_room s.n c.args.from s.most c.requires.from_within in
+    let q = block_room s.n c.args.to s.most c.requires.to_within in
     let room = s.room in
     (refl, refl, refl, refl, refl, omega arith, omega arith, ⊎_elim (λ u. inl (omega arith)) (λ u. inr (omega arith)) (blocks_apart s.n c.args.from c.args.to c.requires.apart), copied_none _ _ s.words.now)
 

@@ -1,4 +1,4 @@
-use Rattle.std.proofs.Common.{◌≡◌, ℕ, ◌-◌, ◌*◌, ◌^◌, ◌<◌, Bool, not, ◌&&◌, ◌||◌, eqb, ltb, length, get_or, drop, sym, ap, ◌∙◌, subst, ap₂, arith, rules, below_more}
+use Rattle.std.proofs.Common.{◌≡◌, ℕ, ◌*◌, ◌^◌, ◌<◌, Bool, not, ◌&&◌, ◌||◌, eqb, ltb, length, get_or, drop, sym, ap, ◌∙◌, subst, ap₂, arith, rules, below_more}
 use lib.Bits.{bit_and}
 use Rattle.std.proofs.lemmas.List.{length-set}
 use Rattle.std.proofs.lemmas.Bool.{cond-true, lt-ltb}
@@ -8,10 +8,10 @@ use Rattle.copying.specs.Memory.{need, row_in, table_in, saved_in, narrowed}
 use Rattle.copying.proofs.Blocks.{frame_is}
 use Rattle.copying.proofs.Meets.{lost, gone, lost_more, gone_more}
 use Rattle.copying.proofs.Narrowed.{Met, met_more, read_word, met_words, is_narrowed, keeps_table, keeps_saved, keeps_spare, shrinks, empties}
-use Rattle.copying.proofs.store.Copying.meet.Goals as needs-of
+use Rattle.copying.proofs.store.Copying.meet.Goals as goal
 
-pub loop_k_again : needs-of.loop-k-again
-loop_k_again c =
+pub loop-k-preserved : goal.loop-k-preserved
+loop-k-preserved c =
     let inv = c.loop-k.invariant in
     let before = read_word (16 * c.args.x) c.loop-k.k c.args.self.now.words.now c.args.row c.loop-k.self.words.now c.loop-k-test.true inv.5 in (
       inv.0,
@@ -25,7 +25,7 @@ loop_k_again c =
       below_more _ _ inv.8 (subst (λ w. w < 2 ^ 64) before (search rules)),
     )
 
-pub returns : needs-of.returns
+pub returns : goal.returns
 returns c =
     let s = c.args.self.now in
     let x = c.args.x in
@@ -46,7 +46,7 @@ returns c =
       answer = kept_is _ _
           (inv.6 ∙ ap (lost (row_in (16 * x) ws) row) full ∙ shrinks s.n s.most x ws row below s.room wide fits fits' ∙ sym (ap (λ (t : Table). ltb (size_of (t x)) (size_of (table_in s.n 0 ws x))) table))
           (inv.7 ∙ ap (gone (row_in (16 * x) ws) row) full ∙ empties s.n s.most x ws row below s.room wide fits fits' ∙ sym (ap (λ (t : Table). eqb (size_of (t x)) 0) table));
-      same-saved = ap₂ (λ n d. saved_in n d us) inv.0 inv.2 ∙ ap (saved_in s.n s.depth) mem ∙ keeps_saved s.n s.most x ws row below s.room wide s.depth s.within;
-      same-frame = frame_is us ws inv.0 inv.1 inv.4 (ap (drop (need s.n s.most)) mem ∙ keeps_spare s.n s.most x ws row below s.room wide);
+      same_saved = ap₂ (λ n d. saved_in n d us) inv.0 inv.2 ∙ ap (saved_in s.n s.depth) mem ∙ keeps_saved s.n s.most x ws row below s.room wide s.depth s.within;
+      same_frame = frame_is us ws inv.0 inv.1 inv.4 (ap (drop (need s.n s.most)) mem ∙ keeps_spare s.n s.most x ws row below s.room wide);
       memory = (mem ∙ sym is, inv.2);
     }

@@ -3,7 +3,7 @@ use Rattle.tables.specs.Tables.{Table}
 use Rattle.copying.specs.Memory.{need, table_in, saved_in, copied}
 use Rattle.copying.proofs.Blocks.{frame_is}
 use Rattle.copying.proofs.Copies.{table_copied, table_stays, saved_stay, spare_stays}
-use Rattle.copying.proofs.store.Copying.push.Goals as needs-of
+use Rattle.copying.proofs.store.Copying.push.Goals as goal
 
 -- the list of saved tables, once the table is copied behind them
 noted_is : (n most depth : ℕ) (ws : List ℕ) → need n most ≤ length ws → depth < most → saved_in n (depth + 1) (copied n 0 (depth + 1) ws) ≡ table_in n 0 ws ∷ saved_in n depth ws
@@ -13,7 +13,7 @@ noted_is n most depth ws room below =
     (ap (λ i. table_in n i (copied n 0 (depth + 1) ws)) (sym (add-one depth)) ∙ table_copied n most ws room 0 (depth + 1) (omega arith) (omega arith))
     (saved_stay n most ws room 0 (depth + 1) (omega arith) (omega arith) depth (omega arith) (λ c p q e. omega arith))
 
-pub returns : needs-of.returns
+pub returns : goal.returns
 returns c =
     let s = c.args.self.now in
     let ws = s.words.now in
@@ -23,7 +23,7 @@ returns c =
     let mem : us ≡ copied s.n 0 (s.depth + 1) ws = did.words in
     record {
       noted = ap₂ (λ n d. saved_in n (d + 1) us) did.sizes.0 did.sizes.2 ∙ ap (saved_in s.n (s.depth + 1)) mem ∙ noted_is s.n s.most s.depth ws s.room below;
-      same-table = ap₂ (λ n us. table_in n 0 us) did.sizes.0 mem ∙ table_stays s.n s.most ws s.room 0 (s.depth + 1) (omega arith) (omega arith) 0 (omega arith) (λ e. omega arith);
-      same-frame = frame_is us ws did.sizes.0 did.sizes.1 did.lent (ap (drop (need s.n s.most)) mem ∙ spare_stays s.n s.most ws s.room 0 (s.depth + 1) (omega arith) (omega arith));
+      same_table = ap₂ (λ n us. table_in n 0 us) did.sizes.0 mem ∙ table_stays s.n s.most ws s.room 0 (s.depth + 1) (omega arith) (omega arith) 0 (omega arith) (λ e. omega arith);
+      same_frame = frame_is us ws did.sizes.0 did.sizes.1 did.lent (ap (drop (need s.n s.most)) mem ∙ spare_stays s.n s.most ws s.room 0 (s.depth + 1) (omega arith) (omega arith));
       memory = (mem, ap (λ d. d + 1) did.sizes.2);
     }

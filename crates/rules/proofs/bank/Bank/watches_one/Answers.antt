@@ -12,4 +12,4 @@ returns-then-watches g c =
 pub returns : goal.returns
 returns g c =
     sym (woken_none (g.Self.Bank.rules c.args.self.now) (in_set c.args.changed) c.args.rule
-    (λ x h. ⊎_elim (λ low. c.loop-x.invariant x low) (λ high. and_left _ _ (c.in-default.ensures x high h)) (cases_lt x c.loop-x.from)))
+    (λ x h. ⊎_elim (λ low. c.loop-x.invariant x low) (λ high. and_left _ _ (c.in_default.ensures x high h)) (cases_lt x c.loop-x.from)))

@@ -9,5 +9,5 @@ returns g c =
       step = c.dispatch.ensures.step;
       promises = step_keeps (g.S.Domains.frame s) (g.B.Bank.rules b) (g.S.Domains.few s) (g.B.Bank.lawful b) c.args.call c.dispatch.result _ _ c.dispatch.ensures.step;
       refused = c.dispatch.ensures.refused;
-      same-frame = c.dispatch.ensures.same-frame;
+      same_frame = c.dispatch.ensures.same_frame;
     }

@@ -11,7 +11,7 @@ returns-in-Strike g c =
     record {
       step = answered (g.S.Domains.frame c.args.store.now) (g.B.Bank.rules c.args.bank.now) _ _ call c.of_order.ensures c.strike.ensures.step;
       refused = order_granted _ c.strike.result c.of_order.result c.of_order.ensures c.strike.ensures.refused;
-      same-frame = c.strike.ensures.same-frame;
+      same_frame = c.strike.ensures.same_frame;
     }
 
 pub returns-in-Narrow : goal.returns-in-Narrow
@@ -22,7 +22,7 @@ returns-in-Narrow g c =
     record {
       step = answered (g.S.Domains.frame c.args.store.now) (g.B.Bank.rules c.args.bank.now) _ _ call c.of_order-in-Narrow.ensures c.narrow.ensures.step;
       refused = order_granted _ c.narrow.result c.of_order-in-Narrow.result c.of_order-in-Narrow.ensures c.narrow.ensures.refused;
-      same-frame = c.narrow.ensures.same-frame;
+      same_frame = c.narrow.ensures.same_frame;
     }
 
 pub returns-in-Settle : goal.returns-in-Settle
@@ -30,7 +30,7 @@ returns-in-Settle g c =
     record {
       step = answered (g.S.Domains.frame c.args.store.now) (g.B.Bank.rules c.args.bank.now) _ _ c.in-Settle.is c.of_settle.ensures c.settle.ensures.step;
       refused = settle_granted _ c.settle.result c.of_settle.result c.of_settle.ensures c.settle.ensures.refused;
-      same-frame = c.settle.ensures.same-frame;
+      same_frame = c.settle.ensures.same_frame;
     }
 
 pub returns-in-Save : goal.returns-in-Save
@@ -38,7 +38,7 @@ returns-in-Save g c =
     record {
       step = answered (g.S.Domains.frame c.args.store.now) (g.B.Bank.rules c.args.bank.now) _ _ c.in-Save.is c.of_plain.ensures c.save.ensures.step;
       refused = plain_granted _ c.save.result c.of_plain.result c.of_plain.ensures c.save.ensures.refused;
-      same-frame = c.save.ensures.same-frame;
+      same_frame = c.save.ensures.same_frame;
     }
 
 pub returns-in-Restore : goal.returns-in-Restore
@@ -46,5 +46,5 @@ returns-in-Restore g c =
     record {
       step = answered (g.S.Domains.frame c.args.store.now) (g.B.Bank.rules c.args.bank.now) _ _ c.in-Restore.is c.of_plain-in-Restore.ensures c.restore.ensures.step;
       refused = plain_granted _ c.restore.result c.of_plain-in-Restore.result c.of_plain-in-Restore.ensures c.restore.ensures.refused;
-      same-frame = c.restore.ensures.same-frame;
+      same_frame = c.restore.ensures.same_frame;
     }

@@ -19,5 +19,5 @@ returns g c =
       step = step;
       promises = step_keeps (g.S.Domains.frame s) (g.B.Bank.rules b) (g.S.Domains.few s) (g.B.Bank.lawful b) call (answer_of_order c.order.result) _ _ step;
       refused = c.order.ensures.refused;
-      same-frame = c.order.ensures.same-frame;
+      same_frame = c.order.ensures.same_frame;
     }

@@ -14,7 +14,7 @@ returns-in-Ok g c =
     record {
       step = λ call is. order_done (g.S.Domains.frame s) (g.B.Bank.rules c.args.bank.now) call c.args.x c.args.row c.args.fine (world c.args.self.now (g.S.Domains.table s) (g.S.Domains.saved s)) is _ c.perform.result tt told c.perform.ensures.world c.perform.ensures.answer;
       refused = tt;
-      same-frame = c.perform.ensures.same-frame;
+      same_frame = c.perform.ensures.same_frame;
     }
 
 pub returns-in-Err : goal.returns-in-Err
@@ -25,5 +25,5 @@ returns-in-Err g c =
     record {
       step = λ call is. order_refused (g.S.Domains.frame s) (g.B.Bank.rules c.args.bank.now) call c.args.x c.args.row c.args.fine (world c.args.self.now (g.S.Domains.table s) (g.S.Domains.saved s)) is _ c.in-Err.fault told refl;
       refused = (refl, refl);
-      same-frame = refl;
+      same_frame = refl;
     }

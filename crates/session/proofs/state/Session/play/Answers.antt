@@ -18,7 +18,7 @@ loop-k-preserved g c =
       leads_more (g.S.Domains.frame c.args.store.now) (g.S.Domains.frame c.loop-k.store) (g.B.Bank.rules c.args.bank.now) _ _ _ c.args.calls.now c.loop-k.answers c.loop-k.k c.answer-answer.result _ inv.3 (omega arith) (omega arith) inv.0 c.answer-answer.ensures.step,
       length-set c.loop-k.answers c.loop-k.k c.answer-answer.result ∙ inv.1,
       rest_same c.loop-k.answers c.args.answers.now c.loop-k.k c.answer-answer.result inv.2,
-      c.answer-answer.ensures.same-frame ∙ inv.3,
+      c.answer-answer.ensures.same_frame ∙ inv.3,
     )
 
 pub returns : goal.returns
@@ -33,5 +33,5 @@ returns g c =
       steps = leads;
       promises = leads_keeps (g.S.Domains.frame s) (g.B.Bank.rules b) (g.S.Domains.few s) (g.B.Bank.lawful b) _ _ _ leads;
       rest = (inv.1, subst (λ m. drop m c.loop-k.answers ≡ drop m c.args.answers.now) all inv.2);
-      same-frame = inv.3;
+      same_frame = inv.3;
     }

@@ -13,5 +13,5 @@ returns g c =
       step = step;
       promises = step_keeps (g.S.Domains.frame s) (g.B.Bank.rules b) (g.S.Domains.few s) (g.B.Bank.lawful b) Restore (answer_of_plain c.try_restore.result) _ _ step;
       refused = c.try_restore.ensures.refused;
-      same-frame = c.try_restore.ensures.same-frame;
+      same_frame = c.try_restore.ensures.same_frame;
     }

@@ -13,5 +13,5 @@ returns g c =
       step = step;
       promises = step_keeps (g.S.Domains.frame s) (g.B.Bank.rules b) (g.S.Domains.few s) (g.B.Bank.lawful b) Save (answer_of_plain c.try_save.result) _ _ step;
       refused = c.try_save.ensures.refused;
-      same-frame = c.try_save.ensures.same-frame;
+      same_frame = c.try_save.ensures.same_frame;
     }

@@ -12,5 +12,5 @@ returns g c =
       step = step;
       promises = step_keeps (g.S.Domains.frame s) (g.B.Bank.rules b) (g.S.Domains.few s) (g.B.Bank.lawful b) Settle (answer_of_settle c.try_settle.result) _ _ step;
       refused = c.try_settle.ensures.refused;
-      same-frame = c.try_settle.ensures.same-frame;
+      same_frame = c.try_settle.ensures.same_frame;
     }

@@ -21,21 +21,21 @@ returns-in-Failed g c =
     record {
       step = settle_refused (g.S.Domains.frame s) (g.B.Bank.rules c.args.bank.now) (world c.args.self.now (g.S.Domains.table s) (g.S.Domains.saved s)) _ c.in-Failed.is refl;
       refused = (refl, refl);
-      same-frame = refl;
+      same_frame = refl;
     }
 
 pub overflow_sub-result : goal.overflow_sub-result
-overflow_sub-result g c = less (g.S.Domains.frame c.args.store.now) (g.S.Domains.frame c.propagate.new.store) (g.S.Domains.table c.args.store.now) (g.S.Domains.table c.propagate.new.store) c.total-before.result c.total.result c.propagate.ensures.same-frame (settles_inside c.propagate.ensures.settles) c.total-before.ensures.value c.total.ensures.value
+overflow_sub-result g c = less (g.S.Domains.frame c.args.store.now) (g.S.Domains.frame c.propagate.new.store) (g.S.Domains.table c.args.store.now) (g.S.Domains.table c.propagate.new.store) c.total-before.result c.total.result c.propagate.ensures.same_frame (settles_inside c.propagate.ensures.settles) c.total-before.ensures.value c.total.ensures.value
 
 pub returns-in-Settled : goal.returns-in-Settled
 returns-in-Settled g c =
     let s = c.args.store.now in
     let after = c.in-Settled.ensures in
     record {
-      step = settle_settles (g.S.Domains.frame s) (g.B.Bank.rules c.args.bank.now) (world c.args.self.now (g.S.Domains.table s) (g.S.Domains.saved s)) _ c.in-Settled.runs c.total-before.result c.total.result c.in-default.not-Failed after.settles c.total-before.ensures.value (c.total.ensures.value ∙ ap (λ (h : Frame). values h.vars (g.S.Domains.table c.propagate.new.store)) c.propagate.ensures.same-frame)
-          (world_is refl (after.idle refl) c.propagate.ensures.same-saves refl c.propagate.ensures.same-saved);
+      step = settle_settles (g.S.Domains.frame s) (g.B.Bank.rules c.args.bank.now) (world c.args.self.now (g.S.Domains.table s) (g.S.Domains.saved s)) _ c.in-Settled.runs c.total-before.result c.total.result c.in_default.not-Failed after.settles c.total-before.ensures.value (c.total.ensures.value ∙ ap (λ (h : Frame). values h.vars (g.S.Domains.table c.propagate.new.store)) c.propagate.ensures.same_frame)
+          (world_is refl (after.idle refl) c.propagate.ensures.same_saves refl c.propagate.ensures.same_saved);
       refused = tt;
-      same-frame = c.propagate.ensures.same-frame;
+      same_frame = c.propagate.ensures.same_frame;
     }
 
 pub returns-in-Failed-propagate : goal.returns-in-Failed-propagate
@@ -44,8 +44,8 @@ returns-in-Failed-propagate g c =
     let after = c.in-Failed-propagate.ensures in
     let failed = c.fail.ensures in
     record {
-      step = settle_breaks (g.S.Domains.frame s) (g.B.Bank.rules c.args.bank.now) (world c.args.self.now (g.S.Domains.table s) (g.S.Domains.saved s)) _ c.in-Failed-propagate.rule c.in-Failed-propagate.runs c.in-default.not-Failed after.settles
-          (world_is failed.0 failed.1 (failed.2 ∙ c.propagate.ensures.same-saves) refl c.propagate.ensures.same-saved);
+      step = settle_breaks (g.S.Domains.frame s) (g.B.Bank.rules c.args.bank.now) (world c.args.self.now (g.S.Domains.table s) (g.S.Domains.saved s)) _ c.in-Failed-propagate.rule c.in-Failed-propagate.runs c.in_default.not-Failed after.settles
+          (world_is failed.0 failed.1 (failed.2 ∙ c.propagate.ensures.same_saves) refl c.propagate.ensures.same_saved);
       refused = tt;
-      same-frame = c.propagate.ensures.same-frame;
+      same_frame = c.propagate.ensures.same_frame;
     }
