@@ -1,5 +1,5 @@
 -- Truth values: orders of numbers, and a need that only one variable has.
-use Rattle.std.proofs.Common.{◌≡◌, Bool, true, false, not, ◌||◌, ℤ, ◌≤ℤ◌, refl, subst, arith}
+use Rattle.std.proofs.Common.{◌≡◌, Bool, true, false, not, ◌||◌, ℤ, ◌≤ℤ◌, sym, refl, subst, arith}
 use lib.Signed.{le_z}
 use Rattle.std.proofs.lemmas.Int.{ints}
 
@@ -19,8 +19,4 @@ answered false p f = refl
 
 -- it is not asked elsewhere
 pub unasked : (q p : Bool) → q ≡ false → (not q || p) ≡ true
-unasked q p e = subst (λ (b : Bool). (not b || p) ≡ true) (sym_false q e) refl
-  where
-    sym_false : (b : Bool) → b ≡ false → false ≡ b
-    sym_false false e = refl
-    sym_false true e = e
+unasked q p e = subst (λ (b : Bool). (not b || p) ≡ true) (sym e) refl

@@ -1,7 +1,5 @@
 -- The laws of the rules of a list. Ghost members name these proofs.
-use Rattle.std.specs.Prelude.{◌≡◌, ℕ, zero, suc, Bool, true, false, cond, List, [], ◌∷◌, map, length, get_or, is_ok, Ok, nat_le, slice_index_or, refl}
-use Rattle.std.proofs.Common.{ap}
-use Rattle.std.proofs.lemmas.Bool.{both_ways}
+use Rattle.std.specs.Prelude.{◌≡◌, ℕ, zero, suc, Bool, true, false, cond, List, [], ◌∷◌, map, length, get_or, Ok, nat_le, slice_index_or}
 use Rattle.rules.specs.Rules.{Rule, Lawful}
 use Rattle.rules.specs.Banks.{nobody, Lawfully}
 use Rattle.rules.specs.Facts.{nobody_lawful}

@@ -10,7 +10,6 @@ use Rattle.rules.proofs.Voids.{inside_shaped}
 use Rattle.sessions.specs.declared.standing.Standing.TheVariants as standing
 use Rattle.sessions.specs.declared.call.Call.{Call}
 use Rattle.sessions.specs.declared.answer.Answer.{Answer}
-use Rattle.sessions.specs.declared.answer.Answer.TheVariants.{Settled}
 use Rattle.sessions.specs.Worlds.{World}
 use Rattle.sessions.specs.Steps.{Step, refused, stirs, empties, settles, breaks, saves, restores}
 use Rattle.sessions.specs.Histories.{History, Event, Lived, begun, stepped, orders, bounds}

@@ -1,6 +1,6 @@
 -- What a beginning that is accepted shows, and a call that is not refused.
 use Rattle.std.proofs.Common.{◌≡◌, ℕ, zero, suc, ◌<◌, ◌≤◌, Bool, true, false, cond, not, eqb, ltb, leb, List, [], ◌∷◌, length, get_or, is_some, Some, None, Ok, Err, Option, Result, sym, refl, ap, ◌∙◌, subst, le_of_suc-le-suc, not-suc-le-zero}
-use Rattle.std.proofs.lemmas.Bool.{both_ways, ltb-true, leb-true, eqb-false, le-leb, not_false}
+use Rattle.std.proofs.lemmas.Bool.{both_ways, ltb-true, leb-true, eqb-false, le-leb, not-false}
 use Rattle.tables.specs.Tables.{Table, is_void}
 use Rattle.rules.specs.declared.fault.RuleFault.{RuleFault}
 use Rattle.rules.specs.Rules.{Rule, Lawful}
@@ -44,7 +44,7 @@ pub accepted_fair : (n : ℕ) (rules : List Rule) (start : Table) → n ≤ 256 
 accepted_fair n rules start few law e =
     let one = when_none (eqb n 0) _ _ e in
     let two = when_none (not (leb (length rules) 256)) _ _ one.1 in
-    let short = leb-true (length rules) 256 (not_false _ two.0) in
+    let short = leb-true (length rules) 256 (not-false _ two.0) in
     let three = unfit_none n 0 rules _ two.1 in
     let fits : (i : ℕ) → i < length rules → (called rules i).fit n ≡ Ok tt = λ i l. ap (λ (b : Bool). (cond b (get_or rules i nobody) nobody).fit n) (le-leb (length rules) 256 short) ∙ three.0 i l in
     (record { few = few; short = short; fits = fits; laws = λ i l. law i n (fits i l) }, (when_none (is_void n start) _ _ three.1).0)
@@ -56,11 +56,11 @@ pub order_granted : (n most : ℕ) (w : World) (c : Call) (x : ℕ) → aimed c 
 order_granted n most w (Strike y v) x e h =
     let one = when_none (is_failed w.standing) _ _ h in
     let two = when_none (not (ltb y n)) _ _ one.1 in
-    (one.0, subst (λ z. z < n) (some_is e) (ltb-true y n (not_false _ two.0)))
+    (one.0, subst (λ z. z < n) (some_is e) (ltb-true y n (not-false _ two.0)))
 order_granted n most w (Narrow y lo hi) x e h =
     let one = when_none (is_failed w.standing) _ _ h in
     let two = when_none (not (ltb y n)) _ _ one.1 in
-    (one.0, subst (λ z. z < n) (some_is e) (ltb-true y n (not_false _ two.0)))
+    (one.0, subst (λ z. z < n) (some_is e) (ltb-true y n (not-false _ two.0)))
 order_granted n most w Settle x e h = absurd (some_none (sym e))
 order_granted n most w Save x e h = absurd (some_none (sym e))
 order_granted n most w Restore x e h = absurd (some_none (sym e))

@@ -1,10 +1,8 @@
-use Rattle.std.proofs.Common.{◌≡◌, ℤ, pos, negsuc, ◌≤ℤ◌, sym, ap, ◌∙◌, arith, w32, to_z, of_z}
+use Rattle.std.proofs.Common.{◌≡◌, ℤ, pos, negsuc, ◌≤ℤ◌, ◌∙◌, arith, w32, to_z, of_z}
 use Rattle.std.proofs.lemmas.Int.{ints}
-use Rattle.tables.specs.Values.{is_value}
-use Rattle.tables.specs.Tables.{Domain, Least, Greatest}
+use Rattle.tables.specs.Tables.{Domain}
 use Rattle.tables.proofs.Places.{value_low, value_high, value_from}
 use Rattle.tables.proofs.Counts.{size_none}
-use Rattle.filters.specs.Ends.{least, greatest}
 use Rattle.filters.proofs.Extremes.{least_is, greatest_is}
 use Rattle.filters.proofs.ends_of.Goals as goal
 

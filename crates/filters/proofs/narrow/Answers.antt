@@ -1,4 +1,4 @@
-use Rattle.std.proofs.Common.{ℕ, Bool, not, ◌&&◌, ◌||◌, eqb, ltb, sym, ap, ◌∙◌}
+use Rattle.std.proofs.Common.{ℕ, not, ◌&&◌, ◌||◌, eqb, ltb, sym, ap, ◌∙◌}
 use Rattle.tables.specs.declared.kept.Kept.{Kept}
 use Rattle.rules.specs.Banks.{in_set}
 use Rattle.filters.proofs.Runs.{running_more}
