@@ -1,5 +1,5 @@
 -- The laws of sums, which ghost members name.
-use Rattle.std.specs.Prelude.{◌≡◌, ℕ, ◌<◌, ◌≤◌, Bool, true, false, cond, not, ◌&&◌, ◌||◌, List, [], ◌∷◌, length, ℤ, pos, ◌+ℤ◌, ◌-ℤ◌, neg_ℤ, ◌≤ℤ◌, is_ok, Ok, Err, Result, ◌==◌, int_le, nat_le, refl}
+use Rattle.std.specs.Prelude.{◌≡◌, ℕ, ◌≤◌, Bool, true, false, cond, not, ◌&&◌, ◌||◌, List, [], ◌∷◌, length, ℤ, pos, ◌+ℤ◌, ◌-ℤ◌, neg_ℤ, ◌≤ℤ◌, is_ok, Ok, Err, Result, ◌==◌, int_le, nat_le, refl}
 use Rattle.std.proofs.Common.{sym, ap, ap₂, subst, ◌∙◌, inl, inr, ⊎_elim, arith}
 use Rattle.std.proofs.Math.Path.{fun_ext}
 use Rattle.std.proofs.lemmas.Int.{ints}
@@ -19,7 +19,7 @@ use Rattle.sums.specs.declared.bank.Sums.{Sums}
 use Rattle.sums.specs.declared.rule.Sign.{Sign}
 use Rattle.sums.specs.declared.rule.Sum.{Sum}
 use Rattle.sums.specs.declared.rule.Term.{Term}
-use Rattle.sums.specs.Sums.{signed, lowest, highest, lo, hi, total, Window, windows, lies, passes, balanced, on_any, are_below, in_reach, worth, balance, sum}
+use Rattle.sums.specs.Sums.{signed, lowest, highest, lo, hi, total, Window, windows, passes, balanced, on_any, are_below, in_reach, worth, balance, sum}
 use Rattle.sums.specs.Meaning.{rules_of}
 use Rattle.sums.specs.Bounds.{added, head_below, tail_below, lo_mono, hi_mono, los_mono, his_mono, lo_le, hi_ge, los_le, his_ge, los_one, his_one}
 
