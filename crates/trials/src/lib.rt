@@ -61,6 +61,6 @@ pub fn small_table_counts() -> usize
 }
 
 #[cfg(test)]
-mod sessions;
+mod session_tests;
 #[cfg(test)]
 mod tests;
