@@ -1,4 +1,3 @@
 pub mod Extremes
 pub mod Runs
-pub mod Truths
 mod Listing

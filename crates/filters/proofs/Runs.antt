@@ -30,10 +30,10 @@ smaller_at x row t z =
     (λ ne. let s = ap size_of (kept_same x row t z ne) in le-ltb (size_of (kept x row t z)) (size_of (t z)) (omega arith) ∙ sym (ap (λ (b : Bool). b && ltb (size_of (kept x row t x)) (size_of (t x))) (ne_eqb z x ne)))
     (cases_eq z x)
 
-less_chain : (a b c : ℕ) → c ≤ b → b ≤ a → ltb c a ≡ (ltb b a || ltb c b)
+pub less_chain : (a b c : ℕ) → c ≤ b → b ≤ a → ltb c a ≡ (ltb b a || ltb c b)
 less_chain a b c p q = grind (arith, nat_tests)
 
-swap : (a b : Bool) → (a && (b && true)) ≡ (b && a)
+pub swap : (a b : Bool) → (a && (b && true)) ≡ (b && a)
 swap true true = refl
 swap true false = refl
 swap false true = refl

@@ -1,48 +1,16 @@
 -- What two keeps of an offset do to a table.
-use Rattle.std.proofs.Common.{◌≡◌, ℕ, ◌≤◌, Bool, true, false, cond, not, ◌&&◌, ◌||◌, eqb, ltb, List, ℤ, ◌+ℤ◌, ◌-ℤ◌, is_ok, Ok, sym, refl, ap, ◌∙◌, subst, ap₂, ⊎_elim, arith}
+use Rattle.std.proofs.Common.{◌≡◌, ℕ, ◌≤◌, Bool, true, false, not, ◌&&◌, ◌||◌, eqb, ltb, List, ℤ, ◌+ℤ◌, ◌-ℤ◌, Ok, sym, refl, ap, ◌∙◌, subst, ap₂, ⊎_elim, arith}
 use mathlib.Core.Path.{fun_ext}
-use Rattle.std.proofs.lemmas.Bool.{cases_eq, eqb-true, eqb-false, eq-eqb, ne_eqb, and_parts, lt-ltb, le-ltb}
-use Rattle.std.proofs.lemmas.Bool.Decides.{nat_tests}
+use Rattle.std.proofs.lemmas.Bool.{cases_eq, eqb-true, eqb-false, lt-ltb}
 use Rattle.tables.specs.Rows.{in_row}
 use Rattle.tables.specs.Tables.{Table, size_of, is_void, Inside, kept}
-use Rattle.tables.proofs.Keeps.{kept_beside}
-use Rattle.rules.specs.declared.ran.Ran.{Ran}
 use Rattle.rules.specs.declared.ran.Ran.TheVariants.{Failed, Done}
-use Rattle.rules.specs.Rules.{Rule}
-use Rattle.rules.specs.Banks.{in_set, Names, Named, Exact, Run}
+use Rattle.rules.specs.Banks.{in_set, Names, Run}
 use Rattle.rules.proofs.Voids.{size_mono, void_at, void_inside, full_at, full_from}
+use Rattle.filters.proofs.Runs.{kept_inside, kept_same, smaller_at, less_chain, swap, run_by}
 use Rattle.offsets.specs.declared.rule.Offset.{Offset}
 use Rattle.offsets.specs.Offsets.{shifted, offset}
 use Rattle.offsets.specs.Facts.{fit_means}
-
--- ---- a run of a rule that fits
-
-pub run_by : (n : ℕ) (r : Rule) (t : Table) (a : Ran) (after : Table) → r.fit n ≡ Ok tt → Inside after t → Named a t after → (is_void n t ≡ false → Exact n (r.filter t) after a) → Run n r t a after
-run_by n r t a after fits i named exact = record {
-  inside = i;
-  named = named;
-  exact = λ full. subst (λ (b : Bool). Exact n (cond b (r.filter t) t) after a) (sym (ap is_ok fits)) (exact full);
-  void = void_inside n after t i;
-}
-
--- ---- one keep
-
-pub kept_inside : (x : ℕ) (row : List ℕ) (t : Table) → Inside (kept x row t) t
-kept_inside x row t z v h = (and_parts (t z v) _ h).0
-
-pub kept_same : (x : ℕ) (row : List ℕ) (t : Table) (z : ℕ) → (z ≡ x → ⊥) → kept x row t z ≡ t z
-kept_same x row t z ne = fun_ext (λ v. kept_beside x row t z v ne)
-
--- only the variable's own domain can get smaller
-pub smaller_at : (x : ℕ) (row : List ℕ) (t : Table) (z : ℕ) → ltb (size_of (kept x row t z)) (size_of (t z)) ≡ (eqb z x && ltb (size_of (kept x row t x)) (size_of (t x)))
-smaller_at x row t z =
-    ⊎_elim
-    (λ (e : z ≡ x). ap (λ i. ltb (size_of (kept x row t i)) (size_of (t i))) e ∙ sym (ap (λ (b : Bool). b && ltb (size_of (kept x row t x)) (size_of (t x))) (eq-eqb z x e)))
-    (λ ne. let s = ap size_of (kept_same x row t z ne) in le-ltb (size_of (kept x row t z)) (size_of (t z)) (omega arith) ∙ sym (ap (λ (b : Bool). b && ltb (size_of (kept x row t x)) (size_of (t x))) (ne_eqb z x ne)))
-    (cases_eq z x)
-
-less_chain : (a b c : ℕ) → c ≤ b → b ≤ a → ltb c a ≡ (ltb b a || ltb c b)
-less_chain a b c p q = grind (arith, nat_tests)
 
 -- ---- the two keeps of an offset
 
@@ -53,14 +21,8 @@ both_kept true true false r s u v f g = ap (λ (i : Bool). i && true) (f refl)
 both_kept true false true r s u v f g = g refl
 both_kept true false false r s u v f g = refl
 
-named_so : (a b p q low_x low-y : Bool) → low_x ≡ true → low-y ≡ true → ((a && (p && low_x)) || (b && (q && low-y))) ≡ ((p && a) || (q && b))
-named_so a b p q low_x low-y e f = ap₂ (λ (i j : Bool). (a && (p && i)) || (b && (q && j))) e f ∙ ap₂ (λ (i j : Bool). i || j) (swap a p) (swap b q)
-  where
-    swap : (a p : Bool) → (a && (p && true)) ≡ (p && a)
-    swap true true = refl
-    swap true false = refl
-    swap false true = refl
-    swap false false = refl
+named_so : (a b p q low_x low_y : Bool) → low_x ≡ true → low_y ≡ true → ((a && (p && low_x)) || (b && (q && low_y))) ≡ ((p && a) || (q && b))
+named_so a b p q low_x low_y e f = ap₂ (λ (i j : Bool). (a && (p && i)) || (b && (q && j))) e f ∙ ap₂ (λ (i j : Bool). i || j) (swap a p) (swap b q)
 
 module _ (o : Offset) (n : ℕ) (fits : (offset o).fit n ≡ Ok tt) (t : Table) (rx ry : List ℕ)
     (at_x : (v : ℤ) → in_row rx v ≡ (t o.x v && t o.y (v -ℤ o.c))) (at_y : (w : ℤ) → in_row ry w ≡ (t o.y w && t o.x (w +ℤ o.c)))
@@ -86,26 +48,26 @@ module _ (o : Offset) (n : ℕ) (fits : (offset o).fit n ≡ Ok tt) (t : Table) 
       let z = eqb-true (size_of (once o.x)) 0 e in
       run_by n (offset o) t Failed once fits once_inside tt (λ full. void_inside n (shifted o.x o.y o.c t) once left_inside (void_at n once o.x m.0 z))
 
-  module _ (twice : Table) (twice-kept : twice ≡ kept o.y ry once) where
+  module _ (twice : Table) (twice_kept : twice ≡ kept o.y ry once) where
     twice_inside : Inside twice t
-    twice_inside z v h = once_inside z v (kept_inside o.y ry once z v (subst (λ u. u z v ≡ true) twice-kept h))
+    twice_inside z v h = once_inside z v (kept_inside o.y ry once z v (subst (λ u. u z v ≡ true) twice_kept h))
 
     -- y has no value left
     pub run_none_y : eqb (size_of (twice o.y)) 0 ≡ true → Run n (offset o) t Failed twice
     run_none_y e =
         let m = fit_means o n fits in
         let z = eqb-true (size_of (twice o.y)) 0 e in
-        run_by n (offset o) t Failed twice fits twice_inside tt (λ full. subst (λ u. is_void n u ≡ true) (twice_is twice twice-kept) (void_at n twice o.y m.1 z))
+        run_by n (offset o) t Failed twice fits twice_inside tt (λ full. subst (λ u. is_void n u ≡ true) (twice_is twice twice_kept) (void_at n twice o.y m.1 z))
 
     full : is_void n t ≡ false → eqb (size_of (once o.x)) 0 ≡ false → eqb (size_of (twice o.y)) 0 ≡ false → is_void n twice ≡ false
     full h a b =
         full_from n twice (λ z l. ⊎_elim
         (λ (e : z ≡ o.y). let ne = eqb-false (size_of (twice o.y)) 0 b in let s = ap (λ i. size_of (twice i)) e in omega arith)
-        (λ beside-y.
-        let same = ap (λ (u : Table). size_of (u z)) twice-kept ∙ ap size_of (kept_same o.y ry once z beside-y) in
+        (λ beside_y.
+        let same = ap (λ (u : Table). size_of (u z)) twice_kept ∙ ap size_of (kept_same o.y ry once z beside_y) in
         ⊎_elim
         (λ (e : z ≡ o.x). let ne = eqb-false (size_of (once o.x)) 0 a in let s = ap (λ i. size_of (once i)) e in omega arith)
-        (λ beside-x. let more = ap (λ (u : Table). size_of (u z)) once_is ∙ ap size_of (kept_same o.x rx t z beside-x) in let some = full_at n t h z l in omega arith)
+        (λ beside_x. let more = ap (λ (u : Table). size_of (u z)) once_is ∙ ap size_of (kept_same o.x rx t z beside_x) in let some = full_at n t h z l in omega arith)
         (cases_eq z o.x))
         (cases_eq z o.y))
 
@@ -113,19 +75,19 @@ module _ (o : Offset) (n : ℕ) (fits : (offset o).fit n ≡ Ok tt) (t : Table) 
     names few set a b ea eb es z =
         let m = fit_means o n fits in
         let low = m.0 in
-        let low-y = m.1 in
+        let low_y = m.1 in
         es z
         ∙ named_so a b (eqb z o.x) (eqb z o.y) _ _ (lt-ltb o.x 256 (omega arith)) (lt-ltb o.y 256 (omega arith))
         ∙ ap₂ (λ (i j : Bool). i || j) (ap (λ (i : Bool). eqb z o.x && i) ea ∙ sym first) (ap (λ (i : Bool). eqb z o.y && i) eb ∙ sym second)
-        ∙ sym (less_chain (size_of (t z)) (size_of (once z)) (size_of (twice z)) (size_mono (twice z) (once z) (λ v h. kept_inside o.y ry once z v (subst (λ u. u z v ≡ true) twice-kept h))) (size_mono (once z) (t z) (once_inside z)))
+        ∙ sym (less_chain (size_of (t z)) (size_of (once z)) (size_of (twice z)) (size_mono (twice z) (once z) (λ v h. kept_inside o.y ry once z v (subst (λ u. u z v ≡ true) twice_kept h))) (size_mono (once z) (t z) (once_inside z)))
       where
         first : ltb (size_of (once z)) (size_of (t z)) ≡ (eqb z o.x && ltb (size_of (once o.x)) (size_of (t o.x)))
         first = subst (λ (u : Table). ltb (size_of (u z)) (size_of (t z)) ≡ (eqb z o.x && ltb (size_of (u o.x)) (size_of (t o.x)))) (sym once_is) (smaller_at o.x rx t z)
 
         second : ltb (size_of (twice z)) (size_of (once z)) ≡ (eqb z o.y && ltb (size_of (twice o.y)) (size_of (once o.y)))
-        second = subst (λ (u : Table). ltb (size_of (u z)) (size_of (once z)) ≡ (eqb z o.y && ltb (size_of (u o.y)) (size_of (once o.y)))) (sym twice-kept) (smaller_at o.y ry once z)
+        second = subst (λ (u : Table). ltb (size_of (u z)) (size_of (once z)) ≡ (eqb z o.y && ltb (size_of (u o.y)) (size_of (once o.y)))) (sym twice_kept) (smaller_at o.y ry once z)
 
     -- both have one
     pub run_done : n ≤ 256 → eqb (size_of (once o.x)) 0 ≡ false → eqb (size_of (twice o.y)) 0 ≡ false → (set : List ℕ) (a b : Bool) → a ≡ ltb (size_of (once o.x)) (size_of (t o.x)) → b ≡ ltb (size_of (twice o.y)) (size_of (once o.y)) → ((z : ℕ) → in_set set z ≡ ((a && (eqb z o.x && ltb o.x 256)) || (b && (eqb z o.y && ltb o.y 256)))) → Run n (offset o) t (Done set) twice
     run_done few fx fy set a b ea eb es =
-        run_by n (offset o) t (Done set) twice fits twice_inside (names few set a b ea eb es) (λ h. (subst (λ u. is_void n u ≡ false) (twice_is twice twice-kept) (full h fx fy), twice_is twice twice-kept))
+        run_by n (offset o) t (Done set) twice fits twice_inside (names few set a b ea eb es) (λ h. (subst (λ u. is_void n u ≡ false) (twice_is twice twice_kept) (full h fx fy), twice_is twice twice_kept))

@@ -5,6 +5,7 @@ use Rattle.std.proofs.Math.Path.{fun_ext}
 use Rattle.std.proofs.lemmas.Int.{ints}
 use Rattle.std.proofs.lemmas.Bool.{both_ways, ltb-true, eqb-true, eq-eqb, and_parts, and_from, or_parts, or_left, or_right}
 use Rattle.tables.specs.Tables.{Domain, Table, Inside}
+use Rattle.tables.proofs.Truths.{asked, answered}
 use Rattle.tables.proofs.Places.{equal_true, equal_same}
 use Rattle.rules.specs.declared.fault.RuleFault.{RuleFault}
 use Rattle.rules.specs.declared.fault.RuleFault.TheVariants.{Variable, Value}
@@ -18,14 +19,7 @@ use Rattle.offsets.specs.Meaning.{rules_of}
 
 -- ---- the tests of a filter, over plain answers
 
--- a test that is only asked of one variable
-asked : (q p : Bool) → (not q || p) ≡ true → q ≡ true → p ≡ true
-asked q p h e = subst (λ (b : Bool). (not b || p) ≡ true) e h
-
-answered : (q p : Bool) → (q ≡ true → p ≡ true) → (not q || p) ≡ true
-answered true p f = f refl
-answered false p f = refl
-
+-- a test that is asked of neither of two variables
 unasked : (a p q : Bool) (s t : Bool) → p ≡ false → q ≡ false → (a && ((not p || s) && (not q || t))) ≡ a
 unasked true p q s t e f = ap₂ (λ (p q : Bool). (not p || s) && (not q || t)) e f
 unasked false p q s t e f = refl

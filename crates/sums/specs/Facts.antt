@@ -7,14 +7,13 @@ use Rattle.std.proofs.lemmas.Bool.{both_ways, cases_Bool, leb-true, eqb-true, eq
 use Rattle.tables.specs.Values.{equal_int}
 use Rattle.tables.specs.Tables.{Domain, Table, Shaped, is_void, Inside, Within}
 use Rattle.tables.proofs.Places.{equal_true, equal_same}
-use Rattle.tables.proofs.Truths.{and_true}
+use Rattle.tables.proofs.Truths.{and_true, le_true, true_le, asked, answered, unasked}
 use Rattle.rules.specs.declared.fault.RuleFault.{RuleFault}
 use Rattle.rules.specs.declared.fault.RuleFault.TheVariants.{Variable, Value, Length}
 use Rattle.rules.specs.Rules.{Assignment, at, In, Single, Lawful}
 use Rattle.rules.specs.Banks.{Lawfully}
 use Rattle.rules.proofs.Voids.{void_inside, within_inside, in_full}
 use Rattle.filters.specs.Facts.{listed_lawful}
-use Rattle.filters.proofs.Truths.{le_true, true_le, asked, answered, unasked}
 use Rattle.sums.specs.declared.bank.Sums.{Sums}
 use Rattle.sums.specs.declared.rule.Sign.{Sign}
 use Rattle.sums.specs.declared.rule.Sum.{Sum}

@@ -6,6 +6,7 @@ use Rattle.std.proofs.lemmas.Bool.{cases_lt, lt-ltb, le-ltb, ltb-false, ltb-true
 use Rattle.tables.specs.Values.{is_value, place, value_at}
 use Rattle.tables.specs.Rows.{at_place, in_row, First, Final}
 use Rattle.tables.specs.Tables.{Least, Greatest, Next, Last}
+use Rattle.tables.proofs.Truths.{le_true, true_le}
 use Rattle.tables.proofs.Places.{is_value_at, place_at, in_row_at, place_is, value_low, value_high}
 
 -- the value that `p as i32 - 512` is
@@ -17,12 +18,6 @@ not_less u v h = grind (arith, ints)
 
 less_false : (u v : ℤ) → v ≤ℤ u → lt_z u v ≡ false
 less_false u v h = grind (arith, ints)
-
-le_true : (u v : ℤ) → le_z u v ≡ true → u ≤ℤ v
-le_true u v h = grind (arith, ints)
-
-true_le : (u v : ℤ) → u ≤ℤ v → le_z u v ≡ true
-true_le u v h = grind (arith, ints)
 
 -- values lie as their places do
 order_up : (p : ℕ) (u : ℤ) → is_value u ≡ true → p ≤ place u → value_at p ≤ℤ u
