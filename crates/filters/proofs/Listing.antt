@@ -1,15 +1,26 @@
 -- The rules of a list by their numbers.
-use Rattle.std.proofs.Common.{◌≡◌, ℕ, zero, suc, ◌<◌, ◌≤◌, List, [], ◌∷◌, map, length, get_or, sym, refl, ap, ◌∙◌, arith}
-use Rattle.std.proofs.lemmas.List.{length-map, get_or_past}
+use Rattle.std.proofs.Common.{◌≡◌, ℕ, zero, suc, ◌<◌, ◌≤◌, List, [], ◌∷◌, map, length, get_or, Some, None, Option, sym, refl, ◌∙◌, arith}
+use Rattle.std.proofs.lemmas.List.{length-map}
+use denote.Bor.{Bor}
+use Rattle.std.specs.List.{slice_get}
+use Rattle.std.specs.Slice.{IsItemAt}
+use Rattle.std.specs.Option.{option_copied}
+use Rattle.std.proofs.lemmas.Option.{slice_get_read, slice_get_past}
 use Rattle.rules.specs.Rules.{Rule}
 use Rattle.rules.specs.Banks.{nobody, count_of, called}
+use Rattle.filters.specs.Listed.{rule_by}
 use Rattle.rules.specs.Facts.{count_few, count_many, called_few, called_over}
 
+-- what `get` found, as the list says it
+pub read : {A : Type 0} (r : Option (Bor A)) (xs : List A) (i : ℕ) → IsItemAt xs i r → option_copied r ≡ slice_get xs i
+read (Some b) xs i h = sym (slice_get_read xs (length xs) i b.now refl h.3.0 h.1)
+read None xs i h = sym (slice_get_past xs i h.3)
+
 module _ {A : Type 0} (f : A → Rule) where
-  nth : (xs : List A) (i : ℕ) (d : A) → i < length xs → get_or (map f xs) i nobody ≡ f (get_or xs i d)
-  nth [] i d h = absurd (omega arith)
-  nth (x ∷ xs) zero d h = refl
-  nth (x ∷ xs) (suc i) d h = nth xs i d (omega arith)
+  nth : (xs : List A) (i : ℕ) → get_or (map f xs) i nobody ≡ rule_by f (slice_get xs i)
+  nth [] i = refl
+  nth (x ∷ xs) zero = refl
+  nth (x ∷ xs) (suc i) = nth xs i
 
   module _ (xs : List A) where
     pub listed_few : length xs ≤ 256 → length xs ≡ count_of (map f xs)
@@ -21,8 +32,5 @@ module _ {A : Type 0} (f : A → Rule) where
     pub called_none : (i : ℕ) → 256 < length xs → called (map f xs) i ≡ nobody
     called_none i h = let l = length-map xs f in called_over (map f xs) i (omega arith)
 
-    pub called_past : (i : ℕ) → length xs ≤ 256 → length xs ≤ i → called (map f xs) i ≡ nobody
-    called_past i h p = let l = length-map xs f in called_few (map f xs) i (omega arith) ∙ get_or_past (map f xs) i nobody (omega arith)
-
-    pub called_at : (i : ℕ) (a : A) → length xs ≤ 256 → i < length xs → a ≡ get_or xs i a → called (map f xs) i ≡ f a
-    called_at i a h p e = let l = length-map xs f in called_few (map f xs) i (omega arith) ∙ nth xs i a p ∙ ap f (sym e)
+    pub called_at : (i : ℕ) → length xs ≤ 256 → called (map f xs) i ≡ rule_by f (slice_get xs i)
+    called_at i h = let l = length-map xs f in called_few (map f xs) i (omega arith) ∙ nth xs i

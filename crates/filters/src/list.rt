@@ -22,9 +22,5 @@ pub fn item<T: Copy>(rules: &[T], rule: usize) -> Option<T>
     if rules.len() > MOST {
         return None;
     }
-    if rule < rules.len() {
-        Some(rules[rule])
-    } else {
-        None
-    }
+    rules.get(rule).copied()
 }
