@@ -1,22 +1,19 @@
 -- Lists of numbers without repetition: members, room, and the numbers below a bound that pass.
-use Rattle.std.proofs.Common.{◌≡◌, ℕ, zero, suc, ◌+◌, ◌<◌, ◌≤◌, Bool, true, false, cond, not, ◌&&◌, ◌||◌, eqb, ltb, List, [], ◌∷◌, ◌++◌, length, sym, refl, ap, ◌∙◌, subst, ap₂, ⊎_elim, add-one, arith}
-use Rattle.std.proofs.lemmas.List.{append-nil, append_assoc}
-use Rattle.std.proofs.lemmas.Bool.{cases_lt, eqb-false, eq-eqb, ne_eqb, lt-ltb, and_from, not_from_false, or_from, or_left, or_right, or_parts, eqb-true}
+use Rattle.std.proofs.Common.{◌≡◌, ℕ, zero, suc, ◌+◌, ◌<◌, ◌≤◌, Bool, true, false, cond, not, ◌&&◌, ◌||◌, eqb, ltb, List, [], ◌∷◌, ◌++◌, length, sym, refl, ap, ◌∙◌, subst, ap₂, add-one, arith}
+use Rattle.std.proofs.Math.Bool.{and-true, or-false}
+use Rattle.std.proofs.lemmas.List.{append-nil}
+use Rattle.std.proofs.lemmas.Bool.{eqb-false, eq-eqb, ne_eqb, lt-ltb, and_from, not_from_false, or_from, or_left, or_right, or_parts, eqb-true}
 use Rattle.tables.specs.Tables.{count}
 use Rattle.tables.proofs.Counts.{count_le, count_less}
-use Rattle.tables.proofs.Truths.{and_true}
-use Rattle.sessions.specs.Agendas.{member, NoTwice, select}
+use Rattle.rules.specs.Sets.{select}
+use Rattle.sessions.specs.Agendas.{member, NoTwice}
 use Rattle.sessions.proofs.Waits.{member_append}
 use Rattle.agenda.specs.Rings.{is_apart}
 
 -- ---- members
 
-or_false : (a : Bool) → (a || false) ≡ a
-or_false true = refl
-or_false false = refl
-
 pub member_push : (k x : ℕ) (xs : List ℕ) → member k (xs ++ x ∷ []) ≡ (member k xs || eqb k x)
-member_push k x xs = member_append k xs (x ∷ []) ∙ ap (λ (b : Bool). member k xs || b) (or_false (eqb k x))
+member_push k x xs = member_append k xs (x ∷ []) ∙ ap (λ (b : Bool). member k xs || b) (or-false (eqb k x))
 
 -- no member of either, no member of both
 pub member_neither : (k : ℕ) (xs ys : List ℕ) → member k xs ≡ false → member k ys ≡ false → member k (xs ++ ys) ≡ false
@@ -59,7 +56,7 @@ pub push_tells : (old new : ℕ → Bool) (x : ℕ) (xs : List ℕ) → x < 256 
 push_tells old new x xs below tells put k =
     put k
     ∙ ap₂ (λ (a b : Bool). a || (eqb k x && b)) (tells k) (lt-ltb x 256 below)
-    ∙ ap (λ (b : Bool). member k xs || b) (and_true (eqb k x))
+    ∙ ap (λ (b : Bool). member k xs || b) (and-true (eqb k x))
     ∙ sym (member_push k x xs)
 
 -- the first is told no more
@@ -68,7 +65,7 @@ pop_tells old new x xs once tells taken k = taken k ∙ ap (λ (b : Bool). b && 
   where
     by : (b : Bool) → eqb k x ≡ b → ((b || member k xs) && not b) ≡ member k xs
     by true e = sym (subst (λ j. member j xs ≡ false) (sym (eqb-true k x e)) once)
-    by false e = and_true (member k xs)
+    by false e = and-true (member k xs)
 
 -- ---- the numbers below a bound that pass
 
@@ -85,23 +82,24 @@ select_past p (suc n) k h = member_neither k (select p n) (cond (p n) (n ∷ [])
 pub select_more : (p : ℕ → Bool) (n : ℕ) → p n ≡ true → select p (n + 1) ≡ select p n ++ n ∷ []
 select_more p n e = ap (select p) (add-one n) ∙ ap (λ (b : Bool). select p n ++ cond b (n ∷ []) []) e
 
--- none passes between two bounds
-pub select_skip : (p : ℕ → Bool) (a b : ℕ) → a ≤ b → ((k : ℕ) → a ≤ k → k < b → p k ≡ false) → select p b ≡ select p a
-select_skip p a zero h f = ap (select p) (let e : 0 ≡ a = omega arith in e)
-select_skip p a (suc b) h f =
-    ⊎_elim
-    (λ low. ap (λ (t : Bool). select p b ++ cond t (b ∷ []) []) (f b (omega arith) (omega arith)) ∙ append-nil (select p b) ∙ select_skip p a b (omega arith) (λ k l m. f k l (omega arith)))
-    (λ high. ap (select p) (let e : suc b ≡ a = omega arith in e))
-    (cases_lt a (suc b))
+-- none stands twice
+pub select_apart : (p : ℕ → Bool) (n : ℕ) → NoTwice (select p n)
+select_apart p zero = tt
+select_apart p (suc n) = last (p n) (select_apart p n)
+  where
+    last : (b : Bool) → NoTwice (select p n) → NoTwice (select p n ++ cond b (n ∷ []) [])
+    last true h = push_apart n (select p n) h (select_past p n n (omega arith))
+    last false h = subst NoTwice (sym (append-nil (select p n))) h
 
--- by two tests that agree
-pub select_same : (p q : ℕ → Bool) (n : ℕ) → ((k : ℕ) → p k ≡ q k) → select p n ≡ select q n
-select_same p q zero f = refl
-select_same p q (suc n) f = ap₂ (λ (xs : List ℕ) (b : Bool). xs ++ cond b (n ∷ []) []) (select_same p q n f) (f n)
+-- ---- a list in two parts
 
--- the next that passes joins the end
-pub join_more : (p : ℕ → Bool) (start now : List ℕ) (from k : ℕ) → now ≡ start ++ select p from → from ≤ k → p k ≡ true → ((j : ℕ) → from ≤ j → j < k → p j ≡ false) → now ++ k ∷ [] ≡ start ++ select p (k + 1)
-join_more p start now from k e h here between =
-    ap (λ (xs : List ℕ). xs ++ k ∷ []) (e ∙ ap (λ (xs : List ℕ). start ++ xs) (sym (select_skip p from k h between)))
-    ∙ append_assoc start (select p k) (k ∷ [])
-    ∙ ap (λ (xs : List ℕ). start ++ xs) (sym (select_more p k here))
+pub part_member : (xs ys : List ℕ) (x : ℕ) → member x (xs ++ x ∷ ys) ≡ true
+part_member xs ys x = member_append x xs (x ∷ ys) ∙ or_right (member x xs) (member x (x ∷ ys)) (or_left (eqb x x) (member x ys) (eq-eqb x x refl))
+
+-- what stands somewhere does not stand before it
+pub part_new : (xs ys : List ℕ) (x : ℕ) → NoTwice (xs ++ x ∷ ys) → member x xs ≡ false
+part_new [] ys x h = refl
+part_new (y ∷ xs) ys x h =
+    let apart = or_parts (member y xs) (member y (x ∷ ys)) (sym (member_append y xs (x ∷ ys)) ∙ h.0) in
+    let other = or_parts (eqb y x) (member y ys) apart.1 in
+    or_from (eqb x y) (member x xs) (ne_eqb x y (λ e. eqb-false y x other.0 (sym e))) (part_new xs ys x h.1)

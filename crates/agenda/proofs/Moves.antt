@@ -2,11 +2,14 @@
 use Rattle.std.proofs.Common.{◌≡◌, ℕ, ◌+◌, ◌-◌, ◌%◌, ◌<◌, ◌≤◌, Bool, true, false, not, ◌&&◌, ◌||◌, eqb, ltb, List, [], ◌∷◌, ◌++◌, length, get_or, set, sym, ap, ◌∙◌, subst, ⊎_elim, arith}
 use Rattle.std.proofs.lemmas.Bool.{both_ways, cases_lt}
 use Rattle.rules.specs.Banks.{in_set}
-use Rattle.rules.proofs.Members.{set_past}
-use Rattle.sessions.specs.Agendas.{member, NoTwice, select, joined}
+use Rattle.rules.proofs.Numbers.{set_past}
+use Rattle.rules.specs.Sets.{members_of}
+use Rattle.rules.proofs.Walks.{select_ext}
+use Rattle.sessions.proofs.Waits.{selected}
+use Rattle.sessions.specs.Agendas.{member, NoTwice, joined}
 use Rattle.agenda.specs.Rings.{queue, is_apart}
 use Rattle.agenda.specs.Facts.{length_queue, apart_says}
-use Rattle.agenda.proofs.Lists.{room, says_apart, push_apart, push_tells, pop_tells, member_neither, select_past, select_skip, select_same}
+use Rattle.agenda.proofs.Lists.{room, says_apart, push_apart, push_tells, pop_tells, member_neither, select_apart, part_member, part_new}
 use Rattle.agenda.proofs.Places.{pushed, popped}
 
 -- a set tells the members of a list
@@ -57,13 +60,14 @@ module _ (ring waiting : List ℕ) (first len : ℕ) (low : first < 256) (some :
 -- ---- a set joins
 
 module _ (new start : List ℕ) where
-  -- who is new does not wait, nor is among those that have joined
-  pub join_new : ((k : ℕ) → in_set new k ≡ true → member k start ≡ false) → (from k : ℕ) → from ≤ k → in_set new k ≡ true → member k (start ++ select (in_set new) from) ≡ false
-  join_new none from k h e = member_neither k start (select (in_set new) from) (none k e) (select_past (in_set new) from k h)
+  -- the next member is a number below 256, does not wait, and is not among those that have joined
+  pub join_next : ((k : ℕ) → in_set new k ≡ true → member k start ≡ false) → (joined rest : List ℕ) (rule : ℕ) → members_of new ≡ joined ++ rule ∷ rest → (rule < 256) × (member rule (start ++ joined) ≡ false)
+  unfolding members_of
+  join_next none joined rest rule e =
+      let in-set = selected (in_set new) 256 rule (ap (member rule) e ∙ part_member joined rest rule) in
+      (in-set.0, member_neither rule start joined (none rule in-set.1) (part_new joined rest rule (subst NoTwice e (select_apart (in_set new) 256))))
 
-  pub join_all : (from : ℕ) → from ≤ 256 → ((k : ℕ) → from ≤ k → k < 256 → in_set new k ≡ false) → (s : ℕ → Bool) → ((k : ℕ) → in_set new k ≡ (s k && not (member k start))) → start ++ select (in_set new) from ≡ joined start s
-  unfolding joined
-  join_all from h none s made =
-      ap (λ (xs : List ℕ). start ++ xs)
-      (sym (select_skip (in_set new) from 256 h none)
-      ∙ select_same (in_set new) (λ k. s k && not (member k start)) 256 made)
+  -- all have joined
+  pub join_all : (s : ℕ → Bool) → ((k : ℕ) → in_set new k ≡ (s k && not (member k start))) → start ++ members_of new ≡ joined start s
+  unfolding members_of joined
+  join_all s made = ap (λ (xs : List ℕ). start ++ xs) (select_ext (in_set new) (λ k. s k && not (member k start)) 256 (λ k _. made k))

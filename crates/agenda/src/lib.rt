@@ -74,10 +74,8 @@ impl Agenda {
         requires none { (k : ℕ) → in_set new k ≡ true → member k (waits self.old) ≡ false }
         ensures { (s : ℕ → Bool) → ((k : ℕ) → in_set new k ≡ (s k && not (member k (waits self.old)))) → waits self.new ≡ joined (waits self.old) s }
     {
-        let mut from = 0;
-        while let Some(rule) = sets::next(new, from) {
+        for rule in sets::members(new) {
             self.push(rule);
-            from = rule + 1;
         }
     }
 

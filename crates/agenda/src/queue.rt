@@ -6,7 +6,7 @@ ghost use Rattle.agenda.specs.Rings.{queue, is_apart};
 
 use rules::sets::Set;
 
-// The rules stand from place `first` on, and go on at place 0 behind the last place.
+// The rules stand from place `first` on, and go on at place 0 behind the last place. No queue of the library, since all of them ask for memory.
 #[derive(Clone, Copy)]
 pub struct Agenda {
     pub(crate) rules: [u8; 256],

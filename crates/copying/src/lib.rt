@@ -18,7 +18,8 @@ impl<'a> Copying<'a> {
     pub fn check(words: &[u64], n: usize, most: usize) -> Result<(), StoreFault>
         ensures { result ≡ answer_check n most (length words.now) }
     {
-        if n < 1 || n > 256 || most < 1 || most > 16 || words.len() < 16 * (n * (most + 1)) {
+        let in_limits = (1..=256).contains(&n) && (1..=16).contains(&most);
+        if !in_limits || words.len() < 16 * (n * (most + 1)) {
             return Err(StoreFault::Limits);
         }
         Ok(())
@@ -32,19 +33,15 @@ impl<'a> Copying<'a> {
         ensures most { result.most ≡ (if fits n most (length words.old) then most else 1) }
         ensures none { result.depth ≡ 0 }
     {
-        match Copying::check(words, n, most) {
-            Ok(()) => Copying {
-                words,
-                n,
-                most,
-                depth: 0,
-            },
-            Err(_) => Copying {
-                words,
-                n: 0,
-                most: 1,
-                depth: 0,
-            },
+        let (n, most) = match Copying::check(words, n, most) {
+            Ok(()) => (n, most),
+            Err(_) => (0, 1),
+        };
+        Copying {
+            words,
+            n,
+            most,
+            depth: 0,
         }
     }
 
@@ -53,7 +50,7 @@ impl<'a> Copying<'a> {
         ensures { result.now ≡ row_at self.now.n 0 x (words_of self.now) }
     {
         if x >= self.n {
-            return &self.words[0..0];
+            return &[];
         }
         let at = 16 * x;
         &self.words[at..at + 16]
@@ -69,14 +66,12 @@ impl<'a> Copying<'a> {
         ensures sizes { (self.new.n ≡ self.old.n) × (self.new.most ≡ self.old.most) × (self.new.depth ≡ self.old.depth) }
     {
         let len = 16 * self.n;
-        let source = 16 * (self.n * from);
-        let target = 16 * (self.n * to);
-        for k in 0..len {
-            self.words[target + k] = self.words[source + k];
-        }
+        let source = len * from;
+        self.words.copy_within(source..source + len, len * to);
     }
 
-    // Meets the words of variable x with the row's, and writes no other word.
+    // Meets the words of variable x with the row's, and writes no other word. The row is read by its place, since of a slice that a `zip`
+    // of `iter_mut` wrote nothing is known.
     fn meet(&mut self, x: usize, row: Row) -> Kept
         requires { x < self.old.n }
         ensures after { table_of self.new ≡ kept x row (table_of self.old) }
@@ -88,12 +83,11 @@ impl<'a> Copying<'a> {
         let at = 16 * x;
         let mut smaller = false;
         let mut empty = true;
-        for k in 0..16usize {
-            let before = self.words[at + k];
-            let after = before & row[k];
-            self.words[at + k] = after;
-            smaller |= after != before;
-            empty &= after == 0;
+        for (k, word) in self.words[at..at + 16].iter_mut().enumerate() {
+            let before = *word;
+            *word &= row[k];
+            smaller |= *word != before;
+            empty &= *word == 0;
         }
         Kept { smaller, empty }
     }

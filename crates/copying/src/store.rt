@@ -1,4 +1,4 @@
-// The store's memory and sizes.
+// The store's memory and sizes. The kernel asks for no memory of its own, so the tables lie one behind another in words that are lent.
 ghost use Rattle.std.specs.Prelude.{◌≤◌, length};
 ghost use Rattle.copying.specs.Memory.{need};
 

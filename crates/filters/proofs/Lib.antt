@@ -1,3 +1,2 @@
 pub mod Extremes
 pub mod Runs
-mod Listing

@@ -1,16 +1,16 @@
 -- A run as keeps one after another: what each does, and how a run ends.
-use Rattle.std.proofs.Common.{◌≡◌, ℕ, ◌<◌, ◌≤◌, Bool, true, false, cond, not, ◌&&◌, ◌||◌, eqb, ltb, List, is_ok, Ok, sym, refl, ap, ◌∙◌, subst, ap₂, ⊎_elim, arith}
+use Rattle.std.proofs.Common.{◌≡◌, ℕ, ◌<◌, ◌≤◌, Bool, true, false, cond, not, ◌&&◌, ◌||◌, eqb, ltb, List, is_ok, Ok, Err, sym, refl, ap, ◌∙◌, subst, ap₂, ⊎_elim, arith}
 use mathlib.Core.Path.{fun_ext}
-use Rattle.std.proofs.lemmas.Bool.{cases_eq, cases_lt, eqb-true, eqb-false, eq-eqb, ne_eqb, and_parts, lt-ltb, le-ltb, not-true, both_ways}
+use Rattle.std.specs.Result.{IsErr}
+use Rattle.std.proofs.lemmas.Bool.{cases_eq, cases_lt, eqb-true, eqb-false, eq-eqb, ne_eqb, and_parts, lt-ltb, le-ltb, not-true, not-false, both_ways}
 use Rattle.std.proofs.lemmas.Bool.Decides.{nat_tests}
 use Rattle.tables.specs.Tables.{Table, Shaped, size_of, is_void, Inside, kept}
 use Rattle.tables.proofs.Counts.{size_none}
 use Rattle.tables.proofs.Keeps.{kept_beside, nothing_outside}
-use Rattle.rules.specs.declared.ran.Ran.{Ran}
-use Rattle.rules.specs.declared.ran.Ran.TheVariants.{Failed, Done}
+use Rattle.rules.specs.declared.ran.Failed.{Failed}
 use Rattle.rules.specs.Rules.{Rule}
-use Rattle.rules.specs.Banks.{in_set, nothing, Named, Exact, Run}
-use Rattle.rules.proofs.Members.{nothing_in}
+use Rattle.rules.specs.Banks.{in_set, nothing, Ran, Named, Exact, Run}
+use Rattle.rules.proofs.Numbers.{nothing_in}
 use Rattle.rules.proofs.Voids.{size_mono, void_at, void_inside, full_at, full_from}
 use Rattle.filters.specs.Running.{Running}
 
@@ -91,18 +91,19 @@ run_by n r t a after fits i named exact = record {
   void = void_inside n after t i;
 }
 
+-- a run that failed answers so
+failed : (P : Ran → Type 0) → ((e : Failed) → P (Err e)) → (a : Ran) → IsErr a → P a
+failed P f (Err e) is = f e
+failed P f (Ok s) is = absurd (both_ways false refl is)
+
 -- a domain that it needs is empty, and it stops at once
-pub run_void : (n : ℕ) (r : Rule) (t : Table) (x : ℕ) → r.fit n ≡ Ok tt → x < n → size_of (t x) ≡ 0 → Run n r t Failed t
-run_void n r t x fits l z = run_by n r t Failed t fits (λ y v h. h) tt (λ full. absurd (both_ways (is_void n t) full (void_at n t x l z)))
+pub run_void : (n : ℕ) (r : Rule) (t : Table) (x : ℕ) → r.fit n ≡ Ok tt → x < n → size_of (t x) ≡ 0 → (a : Ran) → IsErr a → Run n r t a t
+run_void n r t x fits l z = failed (λ a. Run n r t a t) (λ e. run_by n r t (Err e) t fits (λ y v h. h) tt (λ full. absurd (both_ways (is_void n t) full (void_at n t x l z))))
 
 -- it emptied a domain; what the filter leaves lies inside what was left then
-pub run_failed : (n : ℕ) (r : Rule) (t after : Table) (x : ℕ) → r.fit n ≡ Ok tt → Inside after t → Inside (r.filter t) after → x < n → not (eqb (size_of (after x)) 0) ≡ false → Run n r t Failed after
-run_failed n r t after x fits i j l none = run_by n r t Failed after fits i tt (λ full. void_inside n (r.filter t) after j (void_at n after x l (eqb-true (size_of (after x)) 0 (emptied (eqb (size_of (after x)) 0) none))))
-  where
-    emptied : (b : Bool) → not b ≡ false → b ≡ true
-    emptied true e = refl
-    emptied false e = sym e
+pub run_failed : (n : ℕ) (r : Rule) (t after : Table) (x : ℕ) → r.fit n ≡ Ok tt → Inside after t → Inside (r.filter t) after → x < n → not (eqb (size_of (after x)) 0) ≡ false → (a : Ran) → IsErr a → Run n r t a after
+run_failed n r t after x fits i j l none = failed (λ a. Run n r t a after) (λ e. run_by n r t (Err e) after fits i tt (λ full. void_inside n (r.filter t) after j (void_at n after x l (eqb-true (size_of (after x)) 0 (not-false (eqb (size_of (after x)) 0) none)))))
 
 -- it came to its end
-pub run_done : (n : ℕ) (r : Rule) (t after : Table) (set : List ℕ) → r.fit n ≡ Ok tt → Running n t set after → after ≡ r.filter t → Run n r t (Done set) after
-run_done n r t after set fits run e = run_by n r t (Done set) after fits run.inside run.named (λ full. (subst (λ u. is_void n u ≡ false) e (run.full full), e))
+pub run_done : (n : ℕ) (r : Rule) (t after : Table) (set : List ℕ) → r.fit n ≡ Ok tt → Running n t set after → after ≡ r.filter t → Run n r t (Ok set) after
+run_done n r t after set fits run e = run_by n r t (Ok set) after fits run.inside run.named (λ full. (subst (λ u. is_void n u ≡ false) e (run.full full), e))

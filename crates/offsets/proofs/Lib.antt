@@ -1,3 +1,2 @@
-pub mod Listed
 pub mod Walks
 pub mod Narrows

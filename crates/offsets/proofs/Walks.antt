@@ -1,5 +1,6 @@
 -- One walk over the values of y, which collects those with a partner in x, and the partners.
 use Rattle.std.proofs.Common.{◌≡◌, ℕ, ◌+◌, ◌-◌, ◌<◌, Bool, true, false, ◌&&◌, ◌||◌, List, ℤ, pos, negsuc, ◌+ℤ◌, ◌-ℤ◌, ◌≤ℤ◌, sym, refl, ap, ◌∙◌, subst, ap₂, ⊎_elim, arith, w32, to_z, of_z}
+use Rattle.std.proofs.Math.Bool.{or-false, and_comm}
 use lib.Signed.{lt_z}
 use Rattle.std.proofs.lemmas.Int.{ints, by_lt_z}
 use Rattle.std.proofs.lemmas.Bool.{cases_Bool, and_left, and_right, and_from, and_parts, or_from}
@@ -70,12 +71,6 @@ same_value v w c = grind (arith, ints)
 back : (v c : ℤ) → (v -ℤ c) +ℤ c ≡ v
 back v c = omega (arith, ints)
 
-and_swap : (a b : Bool) → (a && b) ≡ (b && a)
-and_swap true true = refl
-and_swap true false = refl
-and_swap false true = refl
-and_swap false false = refl
-
 low_reach : (c : ℤ) → in_reach c ≡ true → negsuc 1022 ≤ℤ c
 low_reach c h = grind (arith, ints)
 
@@ -98,7 +93,7 @@ module _ (n : ℕ) (t : Table) (shaped : Shaped n t) (x y : ℕ) (c : ℤ) where
 
   -- after the last turn
   pub walk_all : (from : ℤ) (rx ry : List ℕ) → Walked t x y c from rx ry → ((u : ℤ) → from ≤ℤ u → t y u ≡ false) → ((v : ℤ) → in_row rx v ≡ (t x v && t y (v -ℤ c))) × ((w : ℤ) → in_row ry w ≡ (t y w && t x (w +ℤ c)))
-  walk_all from rx ry inv none = ((λ v. inv.1 v ∙ all (v -ℤ c) ∙ ap (λ u. t y (v -ℤ c) && t x u) (back v c) ∙ and_swap (t y (v -ℤ c)) (t x v)), (λ w. inv.2 w ∙ all w))
+  walk_all from rx ry inv none = ((λ v. inv.1 v ∙ all (v -ℤ c) ∙ ap (λ u. t y (v -ℤ c) && t x u) (back v c) ∙ and_comm (t y (v -ℤ c)) (t x v)), (λ w. inv.2 w ∙ all w))
     where
       all : (u : ℤ) → met (pairs t x y c) from u ≡ pairs t x y c u
       all u = by_lt_z u from (λ l. let s : lt_z u from ≡ true = grind (arith, ints) in ap (λ (b : Bool). b && pairs t x y c u) s) (λ g. let z = and_left (t y u) (t x (u +ℤ c)) (none u g) in and_right (lt_z u from) (pairs t x y c u) z ∙ sym z)
@@ -160,9 +155,5 @@ module _ (n : ℕ) (t : Table) (shaped : Shaped n t) (x y : ℕ) (c : ℤ) where
         none : (u : ℤ) → (pairs t x y c w && equal_int u w) ≡ false
         none u = and_left (pairs t x y c w) _ (and_right (t y w) _ (subst (λ z. t x z ≡ false) sum_same has))
 
-        or_false : (b : Bool) → (b || false) ≡ b
-        or_false true = refl
-        or_false false = refl
-
         same : (u : ℤ) → met (pairs t x y c) from u ≡ met (pairs t x y c) (w +ℤ pos 1) u
-        same u = sym (step u ∙ ap (λ (b : Bool). met (pairs t x y c) from u || b) (none u) ∙ or_false (met (pairs t x y c) from u))
+        same u = sym (step u ∙ ap (λ (b : Bool). met (pairs t x y c) from u || b) (none u) ∙ or-false (met (pairs t x y c) from u))

@@ -1,5 +1,5 @@
 -- The laws of offsets, which ghost members name.
-use Rattle.std.specs.Prelude.{◌≡◌, ℕ, zero, suc, ◌<◌, Bool, true, false, cond, not, ◌&&◌, ◌||◌, List, [], ◌∷◌, length, get_or, ℤ, ◌+ℤ◌, ◌-ℤ◌, is_ok, Ok, Err, Result, ◌==◌, nat_le, nat_lt, slice_index_or, refl}
+use Rattle.std.specs.Prelude.{◌≡◌, ℕ, ◌<◌, Bool, true, false, cond, not, ◌&&◌, ◌||◌, List, map, ℤ, ◌+ℤ◌, ◌-ℤ◌, is_ok, Ok, Err, Result, ◌==◌, nat_lt, refl}
 use Rattle.std.proofs.Common.{sym, ap, ap₂, subst, ◌∙◌, inl, inr, ⊎_elim, arith}
 use Rattle.std.proofs.Math.Path.{fun_ext}
 use Rattle.std.proofs.lemmas.Int.{ints}
@@ -9,13 +9,12 @@ use Rattle.tables.proofs.Truths.{asked, answered}
 use Rattle.tables.proofs.Places.{equal_true, equal_same}
 use Rattle.rules.specs.declared.fault.RuleFault.{RuleFault}
 use Rattle.rules.specs.declared.fault.RuleFault.TheVariants.{Variable, Value}
-use Rattle.rules.specs.Rules.{Rule, Lawful, at}
-use Rattle.rules.specs.Banks.{nobody, called}
+use Rattle.rules.specs.Rules.{Lawful, at}
+use Rattle.rules.specs.Banks.{Lawfully}
 use Rattle.rules.proofs.Voids.{void_inside, within_inside, in_full, size_one}
-use Rattle.offsets.specs.declared.bank.Offsets.{Offsets}
+use Rattle.filters.specs.Facts.{listed_lawful}
 use Rattle.offsets.specs.declared.rule.Offset.{Offset}
-use Rattle.offsets.specs.Offsets.{shifted, in_reach, offset, offsets}
-use Rattle.offsets.specs.Meaning.{rules_of}
+use Rattle.offsets.specs.Offsets.{shifted, in_reach, offset}
 
 -- ---- the tests of a filter, over plain answers
 
@@ -65,6 +64,7 @@ fit_means o n e =
     let low = and_parts (nat_lt o.x n) (nat_lt o.y n) parts.0 in
     (ltb-true o.x n low.0, ltb-true o.y n low.1, parts.1)
 
+-- a rule whose variables are there keeps the laws
 pub offset_lawful : (o : Offset) (n : ℕ) → o.x < n → o.y < n → Lawful n (offset o)
 offset_lawful o n lx ly = record {
   shrinks = λ d s. inr (inside d);
@@ -90,17 +90,10 @@ offset_lawful o n lx ly = record {
     local : (d e : Table) (z : ℕ) → d z ≡ e z → d o.x ≡ e o.x → d o.y ≡ e o.y → shifted o.x o.y o.c d z ≡ shifted o.x o.y o.c e z
     local d e z p q r = fun_ext (λ v. let a = ap (λ (f : Domain). f v) p in let b = ap (λ (f : Domain). f (v +ℤ o.c)) q in let c = ap (λ (f : Domain). f (v -ℤ o.c)) r in cc)
 
--- ---- the rules of a list
+-- so does one that fits
+pub fits_lawful : (o : Offset) (n : ℕ) → (offset o).fit n ≡ Ok tt → Lawful n (offset o)
+fits_lawful o n e = let m = fit_means o n e in offset_lawful o n m.0 m.1
 
-pub listed_lawful : (os : List Offset) (i n : ℕ) → (get_or (offsets os) i nobody).fit n ≡ Ok tt → Lawful n (slice_index_or (offsets os) i nobody)
-listed_lawful [] i n e = absurd (both_ways false refl (ap is_ok e))
-listed_lawful (o ∷ os) zero n e = let m = fit_means o n e in offset_lawful o n m.0 m.1
-listed_lawful (o ∷ os) (suc i) n e = listed_lawful os i n e
-
-called_lawful : (few : Bool) (r : Rule) (n : ℕ) → (r.fit n ≡ Ok tt → Lawful n r) → (cond few r nobody).fit n ≡ Ok tt → Lawful n (cond few r nobody)
-called_lawful true r n f e = f e
-called_lawful false r n f e = absurd (both_ways false refl (ap is_ok e))
-
--- each rule that fits keeps the laws
-pub offsets_lawful : (b : Offsets) (i n : ℕ) → (called (rules_of b) i).fit n ≡ Ok tt → Lawful n (called (rules_of b) i)
-offsets_lawful b i n e = called_lawful (nat_le (length (rules_of b)) 256) (slice_index_or (rules_of b) i nobody) n (listed_lawful b.rules.now i n) e
+-- each rule of a list that fits keeps the laws
+pub offsets_lawful : (os : List Offset) → Lawfully (map offset os)
+offsets_lawful = listed_lawful offset fits_lawful

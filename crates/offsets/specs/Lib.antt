@@ -1,3 +1,2 @@
 pub mod Offsets
-pub mod Meaning
 pub mod Facts

@@ -1,10 +1,9 @@
 -- What the rule x = y + c means.
-use Rattle.std.specs.Prelude.{ℕ, Bool, cond, not, ◌&&◌, ◌||◌, List, [], ◌∷◌, ℤ, pos, negsuc, ◌+ℤ◌, ◌-ℤ◌, Some, None, Ok, Err, Option, ◌==◌, int_le, nat_lt}
+use Rattle.std.specs.Prelude.{ℕ, Bool, cond, not, ◌&&◌, ◌||◌, ℤ, pos, negsuc, ◌+ℤ◌, ◌-ℤ◌, Ok, Err, ◌==◌, int_le, nat_lt}
 use Rattle.tables.specs.Values.{equal_int}
 use Rattle.tables.specs.Tables.{Table}
 use Rattle.rules.specs.declared.fault.RuleFault.TheVariants.{Variable, Value}
 use Rattle.rules.specs.Rules.{Rule, at}
-use Rattle.rules.specs.Banks.{nobody}
 use Rattle.offsets.specs.declared.rule.Offset.{Offset}
 
 -- what is left of a table: v stays in x exactly if v - c is in y, and w stays in y exactly if w + c is in x, both by the table as it was
@@ -23,13 +22,3 @@ offset o = record {
   obeyed = λ a. equal_int (at a o.x) (at a o.y +ℤ o.c);
   fit = λ n. cond (nat_lt o.x n && nat_lt o.y n) (cond (in_reach o.c) (Ok tt) (Err Value)) (Err Variable);
 }
-
--- the rules of a list
-abbrev pub offsets : List Offset → List Rule
-offsets [] = []
-offsets (o ∷ os) = offset o ∷ offsets os
-
--- the rule that was found, or nobody
-abbrev pub rule_of : Option Offset → Rule
-rule_of None = nobody
-rule_of (Some o) = offset o

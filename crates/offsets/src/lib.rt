@@ -1,77 +1,25 @@
 // The bank of the rules x = y + c, filtered by values.
 #![tactic(auto)]
 
-ghost use Rattle.std.specs.Prelude.{◌≡◌, ℕ, true, false, ◌&&◌, ◌||◌, length, ℤ, ◌+ℤ◌, ◌-ℤ◌, is_ok, Ok, ◌==◌, nat_lt, slice_index_or};
+ghost use Rattle.std.specs.Prelude.{◌≡◌, true, ◌&&◌, ℤ, ◌+ℤ◌, ◌-ℤ◌, Ok};
 ghost use Rattle.tables.specs.Rows.{in_row};
-ghost use Rattle.rules.specs.Banks.{in_set, nothing, nobody, called, Run};
-ghost use Rattle.rules.specs.declared.ran.Ran.TheVariants.{Done};
-ghost use Rattle.offsets.specs.Offsets.{in_reach, offset, rule_of};
-ghost use Rattle.offsets.specs.Meaning.{rules_of};
-ghost use Rattle.offsets.specs.Facts.{offsets_lawful};
+ghost use Rattle.rules.specs.Banks.{Run};
+ghost use Rattle.offsets.specs.Offsets.{in_reach, offset};
+ghost use Rattle.offsets.specs.Facts.{fits_lawful};
 
-pub mod bank;
 mod both;
 pub mod rule;
 
-pub use bank::Offsets;
 use both::Both;
+use filters::{Kind, Listed};
 pub use rule::Offset;
-use rules::sets::Set;
-use rules::{Bank, Ran, RuleFault, sets};
-use tables::{Domains, Row, rows};
+use rules::{Ran, RuleFault, sets};
+use tables::{Domains, rows};
 
-impl<'a> Offsets<'a> {
-    // The bank of these rules, in their order.
-    pub fn new(rules: &'a [Offset]) -> Offsets<'a>
-        ensures { result.rules.now ≡ rules.now }
-    {
-        Offsets { rules }
-    }
+// A bank of these rules, in a list that the caller lends.
+pub type Offsets<'a> = Listed<'a, Offset>;
 
-    // How many rules the list has.
-    fn count(&self) -> usize
-        ensures { result ≡ length (rules_of self.now) }
-    {
-        self.rules.len()
-    }
-
-    // The rule at a place of the list.
-    fn nth(&self, rule: usize) -> Option<Offset>
-        ensures { slice_index_or (rules_of self.now) rule nobody ≡ rule_of result }
-    {
-        let rules = self.rules;
-        if rule < rules.len() {
-            Some(rules[rule])
-        } else {
-            None
-        }
-    }
-
-    // The rule of a number: none past the last, and none in a list of more than 256.
-    fn rule_at(&self, rule: usize) -> Option<Offset>
-        ensures { called (rules_of self.now) rule ≡ rule_of result }
-    {
-        if self.count() > 256 {
-            return None;
-        }
-        self.nth(rule)
-    }
-}
-
-// Whether a rule fits n variables, else the refusal.
-fn fits(o: Offset, n: usize) -> Result<(), RuleFault>
-    ensures { result ≡ (offset o).fit n }
-{
-    if o.x >= n || o.y >= n {
-        return Err(RuleFault::Variable);
-    }
-    if o.c < -1023 || o.c > 1023 {
-        return Err(RuleFault::Value);
-    }
-    Ok(())
-}
-
-// The values of x and of y that have a partner in the other one, by one walk over those of y.
+// The values of x and of y that have a partner in the other one, by one walk over those of y. Every filter walks a domain by `next`.
 fn matched<S: Domains>(store: &S, o: Offset) -> Both
     requires { in_reach o.c ≡ true }
     ensures x { (v : ℤ) → in_row result.x v ≡ (S.Domains.table store.now o.x v && S.Domains.table store.now o.y (v -ℤ o.c)) }
@@ -91,84 +39,45 @@ fn matched<S: Domains>(store: &S, o: Offset) -> Both
     Both { x, y }
 }
 
-// The set of what got smaller, by what the two keeps said.
-fn smaller(o: Offset, at_x: bool, at_y: bool) -> Set
-    ensures { (z : ℕ) → in_set result z ≡ ((at_x && (z == o.x && nat_lt o.x 256)) || (at_y && (z == o.y && nat_lt o.y 256))) }
-{
-    let mut set = sets::none();
-    if at_x {
-        sets::insert(&mut set, o.x);
-    }
-    if at_y {
-        sets::insert(&mut set, o.y);
-    }
-    set
-}
-
 // Runs a rule that fits, by the values that have a partner: x keeps those that lie c above one of y, and y those that lie c below one of x.
-fn narrow<S: Domains>(store: &mut S, o: Offset, row_x: Row, row_y: Row) -> Ran
+fn narrow<S: Domains>(store: &mut S, o: Offset, left: Both) -> Ran
     requires fits { (offset o).fit (S.Domains.frame store.old).vars ≡ Ok tt }
-    requires x { (v : ℤ) → in_row row_x v ≡ (S.Domains.table store.old o.x v && S.Domains.table store.old o.y (v -ℤ o.c)) }
-    requires y { (w : ℤ) → in_row row_y w ≡ (S.Domains.table store.old o.y w && S.Domains.table store.old o.x (w +ℤ o.c)) }
+    requires x { (v : ℤ) → in_row left.x v ≡ (S.Domains.table store.old o.x v && S.Domains.table store.old o.y (v -ℤ o.c)) }
+    requires y { (w : ℤ) → in_row left.y w ≡ (S.Domains.table store.old o.y w && S.Domains.table store.old o.x (w +ℤ o.c)) }
     ensures run { Run (S.Domains.frame store.old).vars (offset o) (S.Domains.table store.old) result (S.Domains.table store.new) }
     ensures same_saved { S.Domains.saved store.new ≡ S.Domains.saved store.old }
     ensures same_frame { S.Domains.frame store.new ≡ S.Domains.frame store.old }
 {
-    let at_x = store.keep(o.x, row_x);
-    if at_x.empty {
-        return Ran::Failed;
-    }
-    let at_y = store.keep(o.y, row_y);
-    if at_y.empty {
-        return Ran::Failed;
-    }
-    Ran::Done(smaller(o, at_x.smaller, at_y.smaller))
+    let mut smaller = sets::none();
+    filters::narrow(store, o.x, left.x, &mut smaller)?;
+    filters::narrow(store, o.y, left.y, &mut smaller)?;
+    Ok(smaller)
 }
 
-// Runs a rule on any store; one that does not fit changes nothing.
-fn link<S: Domains>(store: &mut S, o: Offset) -> Ran
-    ensures run { Run (S.Domains.frame store.old).vars (offset o) (S.Domains.table store.old) result (S.Domains.table store.new) }
-    ensures idle { is_ok ((offset o).fit (S.Domains.frame store.old).vars) ≡ false → (result ≡ Done nothing) × (store.new ≡ store.old) }
-    ensures same_saved { S.Domains.saved store.new ≡ S.Domains.saved store.old }
-    ensures same_frame { S.Domains.frame store.new ≡ S.Domains.frame store.old }
-{
-    match fits(o, store.variables()) {
-        Ok(()) => {
-            let both = matched(store, o);
-            narrow(store, o, both.x, both.y)
+impl Kind for Offset {
+    ghost meaning = { offset };
+
+    fn fit(&self, n: usize) -> Result<(), RuleFault> {
+        if self.x >= n || self.y >= n {
+            return Err(RuleFault::Variable);
         }
-        Err(_) => Ran::Done(sets::none()),
-    }
-}
-
-impl<'a> Bank for Offsets<'a> {
-    ghost rules = { rules_of };
-
-    ghost lawful = { offsets_lawful };
-
-    fn rules(&self) -> usize {
-        let count = self.count();
-        if count > 256 { 257 } else { count }
-    }
-
-    fn fit(&self, rule: usize, n: usize) -> Result<(), RuleFault> {
-        match self.rule_at(rule) {
-            Some(o) => fits(o, n),
-            None => Err(RuleFault::Count),
+        if self.c < -1023 || self.c > 1023 {
+            return Err(RuleFault::Value);
         }
+        Ok(())
     }
 
-    fn watches(&self, rule: usize, x: usize) -> bool {
-        match self.rule_at(rule) {
-            Some(o) => x == o.x || x == o.y,
-            None => false,
-        }
+    fn watches(&self, x: usize) -> bool {
+        x == self.x || x == self.y
     }
 
-    fn run<S: Domains>(&self, rule: usize, store: &mut S) -> Ran {
-        match self.rule_at(rule) {
-            Some(o) => link(store, o),
-            None => Ran::Done(sets::none()),
+    fn run<S: Domains>(&self, store: &mut S) -> Ran {
+        if self.fit(store.variables()).is_err() {
+            return Ok(sets::none());
         }
+        let left = matched(store, *self);
+        narrow(store, *self, left)
     }
+
+    ghost lawful = { fits_lawful };
 }

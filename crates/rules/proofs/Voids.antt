@@ -11,10 +11,6 @@ pub size_mono : (d e : Domain) → ((v : ℤ) → d v ≡ true → e v ≡ true)
 unfolding size_of
 size_mono d e f = count_mono (λ p. d (value_at p)) (λ p. e (value_at p)) 1024 (λ k h. f (value_at k))
 
--- an empty domain has no value
-pub size_zero : (d : Domain) → size_of d ≡ 0 → (v : ℤ) → is_value v ≡ true → d v ≡ false
-size_zero d e v h = ⊎_elim (λ yes. absurd (omega (arith, size_some d v h yes))) (λ no. no) (cases_Bool (d v))
-
 and_not : (a b : Bool) → a ≡ true → b ≡ false → (a && not b) ≡ true
 and_not true false p q = refl
 and_not true true p q = sym q

@@ -1,11 +1,10 @@
 -- What a bank of rules answers, and what a run leaves.
-use Rattle.std.specs.Prelude.{◌≡◌, ℕ, zero, suc, Bool, true, false, cond, ◌&&◌, ◌||◌, List, [], ◌∷◌, length, is_ok, Ok, Err, nat_le, nat_lt, slice_index_or}
+use Rattle.std.specs.Prelude.{◌≡◌, ℕ, zero, suc, Bool, true, false, cond, ◌&&◌, ◌||◌, List, [], ◌∷◌, length, is_ok, Ok, Err, Result, nat_le, nat_lt, slice_index_or}
 use Rattle.tables.specs.Rows.{at_place}
 use Rattle.tables.specs.Tables.{Table, size_of, is_void, Inside}
 use Rattle.rules.specs.declared.fault.RuleFault.{RuleFault}
 use Rattle.rules.specs.declared.fault.RuleFault.TheVariants.{Count, Variable, Value, Length}
-use Rattle.rules.specs.declared.ran.Ran.{Ran}
-use Rattle.rules.specs.declared.ran.Ran.TheVariants.{Failed, Done}
+use Rattle.rules.specs.declared.ran.Failed.{Failed}
 use Rattle.rules.specs.Rules.{Rule, Lawful}
 
 -- the number of each refusal
@@ -56,15 +55,19 @@ filtered n r t = cond (is_ok (r.fit n)) (r.filter t) t
 abbrev pub Names : List ℕ → Table → Table → Type 0
 Names s before after = (x : ℕ) → in_set s x ≡ nat_lt (size_of (after x)) (size_of (before x))
 
+-- what a run answers: which variables got smaller, as a set, or that no table without an empty domain is left
+abbrev pub Ran : Type 0
+Ran = Result (List ℕ) Failed
+
 -- a run that did not fail names what got smaller
 abbrev pub Named : Ran → Table → Table → Type 0
-Named Failed before after = Unit {0}
-Named (Done s) before after = Names s before after
+Named (Err _) before after = Unit {0}
+Named (Ok s) before after = Names s before after
 
 -- failed exactly where the filtered table is void; otherwise it is the table
 abbrev pub Exact : ℕ → Table → Table → Ran → Type 0
-Exact n left after Failed = is_void n left ≡ true
-Exact n left after (Done s) = (is_void n left ≡ false) × (after ≡ left)
+Exact n left after (Err _) = is_void n left ≡ true
+Exact n left after (Ok s) = (is_void n left ≡ false) × (after ≡ left)
 
 -- A run of a rule on a table of n variables: what it answers and leaves.
 pub record Run (n : ℕ) (r : Rule) (before : Table) (answer : Ran) (after : Table) : Type 0 where

@@ -1,4 +1,6 @@
 pub mod Rules
 pub mod Banks
+pub mod Sets
+pub mod Texts
 pub mod Joins
 pub mod Facts

@@ -3,13 +3,14 @@
 
 pub mod bank;
 pub mod fault;
-mod found;
 pub mod joined;
+pub mod members;
 pub mod ran;
 pub mod refusals;
 pub mod sets;
+mod side;
 
-pub use bank::Bank;
+pub use bank::{Bank, MOST};
 pub use fault::RuleFault;
 pub use joined::Joined;
-pub use ran::Ran;
+pub use ran::{Failed, Ran};

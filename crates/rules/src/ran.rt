@@ -1,8 +1,9 @@
 // What a run of a rule answers.
+use crate::sets::Set;
+
+// No table without an empty domain is left.
 #[derive(Clone, Copy, PartialEq, Eq, Debug)]
-pub enum Ran {
-    // no table without an empty domain is left
-    Failed,
-    // the variables that got smaller, as a set
-    Done([u64; 4]),
-}
+pub struct Failed;
+
+// The variables that got smaller, unless the run failed.
+pub type Ran = Result<Set, Failed>;

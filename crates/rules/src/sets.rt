@@ -2,7 +2,9 @@
 ghost use Rattle.std.specs.Prelude.{◌≡◌, ℕ, not, ◌&&◌, ◌||◌, ◌==◌, nat_lt};
 ghost use Rattle.tables.specs.Rows.{First};
 ghost use Rattle.rules.specs.Banks.{in_set, nothing};
+ghost use Rattle.rules.specs.Sets.{members_of, members_left};
 
+use crate::members::Members;
 use tables::rows;
 
 pub type Set = [u64; 4];
@@ -32,28 +34,26 @@ pub fn next(set: Set, from: usize) -> Option<usize>
 pub fn insert(set: &mut Set, k: usize)
     ensures { (j : ℕ) → in_set set.new j ≡ (in_set set.old j || (j == k && nat_lt k 256)) }
 {
-    if k < 256 {
-        set[k / 64] |= 1 << (k % 64);
-    }
+    rows::put(set, k);
 }
 
 // Takes k out of a set.
 pub fn remove(set: &mut Set, k: usize)
     ensures { (j : ℕ) → in_set set.new j ≡ (in_set set.old j && not (j == k)) }
 {
-    if k < 256 {
-        set[k / 64] &= !(1 << (k % 64));
-    }
+    rows::take(set, k);
 }
 
 // The members of the first set that the second has not.
 pub fn minus(set: Set, other: Set) -> Set
     ensures { (j : ℕ) → in_set result j ≡ (in_set set j && not (in_set other j)) }
 {
-    [
-        set[0] & !other[0],
-        set[1] & !other[1],
-        set[2] & !other[2],
-        set[3] & !other[3],
-    ]
+    std::array::from_fn(|j| set[j] & !other[j])
+}
+
+// The members of a set, ascending.
+pub fn members(set: Set) -> Members
+    ensures { members_left result ≡ members_of set }
+{
+    Members { set, from: 0 }
 }

@@ -1,4 +1,6 @@
 pub mod Sizes
+pub mod Counting
+pub mod Handing
 pub mod Promised
 pub mod Waking
 pub mod Stepping

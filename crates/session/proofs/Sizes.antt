@@ -11,10 +11,6 @@ use Rattle.sessions.specs.declared.fault.SessionFault.TheVariants as fault
 use Rattle.sessions.specs.Worlds.{or_else, unfit}
 use Rattle.sessions.specs.Steps.{values}
 
--- one variable more
-pub values_more : (t : Table) (x : ℕ) → values (x + 1) t ≡ values x t + size_of (t x)
-values_more t x = ap (λ m. values m t) (add-one x) ∙ (let e : size_of (t x) + values x t ≡ values x t + size_of (t x) = omega arith in e)
-
 -- the rule of a number answers for the rest
 pub unfit_more : (n i : ℕ) (rules : List Rule) (rest : Option SessionFault) → length rules ≤ 256 → i < length rules → unfit n i (drop i rules) rest ≡ or_else i ((called rules i).fit n) (unfit n (i + 1) (drop (i + 1) rules) rest)
 unfit_more n i rules rest few l =

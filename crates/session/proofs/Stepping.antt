@@ -1,6 +1,7 @@
 -- From what the code does to the steps of a session.
-use Rattle.std.proofs.Common.{◌≡◌, ℕ, ◌-◌, Bool, true, false, cond, not, ◌&&◌, ◌||◌, eqb, ltb, List, ℤ, is_ok, IfErr, Some, None, Ok, Err, Option, Result, sym, refl, ap, ◌∙◌, subst, ap₂, ⊎_elim}
+use Rattle.std.proofs.Common.{◌≡◌, ℕ, ◌-◌, Bool, true, false, cond, not, ◌&&◌, ◌||◌, eqb, ltb, List, ℤ, is_ok, IfErr, MatchResult, IfSome, is_some, Some, None, Ok, Err, Option, Result, sym, refl, ap, ◌∙◌, subst, ap₂, ⊎_elim}
 use mathlib.Core.Path.{fun_ext}
+use Rattle.std.specs.Option.{ok_or}
 use lib.Signed.{le_z}
 use Rattle.std.proofs.lemmas.Bool.{both_ways, cases_Bool, cond-true, cond-false}
 use Rattle.tables.specs.Values.{is_value, equal_int}
@@ -8,17 +9,16 @@ use Rattle.tables.specs.Rows.{in_row}
 use Rattle.tables.specs.Tables.{Table, size_of, Shaped, kept}
 use Rattle.tables.specs.Stores.{Frame}
 use Rattle.rules.specs.Rules.{Rule}
-use Rattle.sessions.specs.declared.standing.Standing.{Standing}
 use Rattle.sessions.specs.declared.standing.Standing.TheVariants as standing
 use Rattle.sessions.specs.declared.call.Call.{Call}
 use Rattle.sessions.specs.declared.call.Call.TheVariants.{Strike, Narrow, Settle, Save, Restore}
 use Rattle.sessions.specs.declared.answer.Answer.{Answer}
+use Rattle.sessions.specs.declared.answer.Answer.TheVariants as answer
 use Rattle.sessions.specs.declared.fault.SessionFault.{SessionFault}
 use Rattle.sessions.specs.declared.fault.SessionFault.TheVariants as fault
-use Rattle.sessions.specs.Worlds.{World, is_failed, when, refusal}
+use Rattle.sessions.specs.Worlds.{World, is_failed, when, refusal, ordered}
 use Rattle.sessions.specs.Steps.{values, woke, settled, failed, Settles, broken_by, settled_by, saved_by, restored_by, refused, stirs, empties, settles, breaks, saves, restores}
 use Rattle.sessions.specs.Histories.{granted}
-use Rattle.sessions.proofs.Starting.{failed_stands}
 use Rattle.session.specs.declared.outcome.Ordered.{Ordered}
 use Rattle.session.specs.declared.outcome.Ordered.TheVariants as outcome
 use Rattle.session.specs.declared.outcome.Propagated.{Propagated}
@@ -41,26 +41,50 @@ refuses (Some g) f e = ap Some (sym (ap fault_of e))
 
 -- ---- orders
 
-module _ (f : Frame) (rules : List Rule) (c : Call) (x : ℕ) (row : List ℕ) (fine : Bool) (w : World) (is : IsOrder f.vars c x row fine w.table) where
-  -- what an order is refused with
+-- a refusal before an order's numbers are looked at, and none
+barred : (a b : Bool) (rest : Option SessionFault) (e : SessionFault) → Err e ≡ verdict (when a fault.Failed (when b fault.Variable None)) → when a fault.Failed (when b fault.Variable rest) ≡ Some e
+barred true b rest e v = refuses (Some fault.Failed) e v
+barred false true rest e v = refuses (Some fault.Variable) e v
+barred false false rest e v = absurd (both_ways false refl (ap is_ok v))
+
+free : (a b : Bool) (rest : Option SessionFault) (u : Unit {0}) → Ok u ≡ verdict (when a fault.Failed (when b fault.Variable None)) → when a fault.Failed (when b fault.Variable rest) ≡ rest
+free true b rest u v = absurd (both_ways true (ap is_ok v) refl)
+free false true rest u v = absurd (both_ways true (ap is_ok v) refl)
+free false false rest u v = refl
+
+module _ (f : Frame) (rules : List Rule) (c : Call) (x : ℕ) (w : World) where
+  -- what an order is refused with before its numbers are looked at
   abbrev pub bars : Option SessionFault
-  bars = when (is_failed w.standing) fault.Failed (when (not (ltb x f.vars)) fault.Variable (when (not fine) fault.Value None))
+  bars = when (is_failed w.standing) fault.Failed (when (not (ltb x f.vars)) fault.Variable None)
 
-  pub order_refused : (w' : World) (e : SessionFault) → Err e ≡ verdict bars → w' ≡ w → Steps f rules c (answer_of_order (Err e)) w w'
-  order_refused w' e v same = refused (is.refuses f.most w ∙ refuses bars e v) same
+  pub order_refused : (row : Option (List ℕ)) → IsOrder f.vars c x row w.table → (w' : World) (e : SessionFault) → Err e ≡ verdict bars → w' ≡ w → Steps f rules c (answer_of_order (Err e)) w w'
+  order_refused row is w' e v same = refused (is.refuses f.most w ∙ barred (is_failed w.standing) (not (ltb x f.vars)) _ e v) same
 
-  pub order_done : (w' : World) (a : Ordered) (u : Unit {0}) → Ok u ≡ verdict bars → w' ≡ after_order rules x (kept x row w.table) w → a ≡ cond (eqb (size_of (kept x row w.table x)) 0) outcome.Emptied outcome.Done → Steps f rules c (answer_of_order (Ok a)) w w'
-  order_done w' a u v at ans =
-      let free = is.refuses f.most w ∙ passes bars u v in
+  -- its numbers are not in order
+  pub order_unfit : IsOrder f.vars c x None w.table → (w' : World) (u : Unit {0}) → Ok u ≡ verdict bars → w' ≡ w → Steps f rules c (answer_of_order (Err fault.Value)) w w'
+  order_unfit is w' u v same = refused (is.refuses f.most w ∙ free (is_failed w.standing) (not (ltb x f.vars)) _ u v) same
+
+  pub order_done : (row : List ℕ) → IsOrder f.vars c x (Some row) w.table → (w' : World) (a : Ordered) (u : Unit {0}) → Ok u ≡ verdict bars → w' ≡ after_order rules x (kept x row w.table) w → a ≡ cond (eqb (size_of (kept x row w.table x)) 0) outcome.Emptied outcome.Done → Steps f rules c (answer_of_order (Ok a)) w w'
+  order_done row is w' a u v at ans =
+      let passed = is.refuses f.most w ∙ free (is_failed w.standing) (not (ltb x f.vars)) _ u v in
       let leaves = is.leaves in
       ⊎_elim
       (λ none.
       subst (λ (b : Ordered). Steps f rules c (answer_of_order (Ok b)) w w') (sym (ans ∙ cond-true _ _ _ none))
-      (empties is.aims free (ap (λ (t : Table). eqb (size_of (t x)) 0) leaves ∙ none) (at ∙ cond-true _ _ _ none ∙ ap (λ (t : Table). broken_by t w) (sym leaves))))
+      (empties is.aims passed (ap (λ (t : Table). eqb (size_of (t x)) 0) leaves ∙ none) (at ∙ cond-true _ _ _ none ∙ ap (λ (t : Table). broken_by t w) (sym leaves))))
       (λ some.
       subst (λ (b : Ordered). Steps f rules c (answer_of_order (Ok b)) w w') (sym (ans ∙ cond-false _ _ _ some))
-      (stirs is.aims free (ap (λ (t : Table). eqb (size_of (t x)) 0) leaves ∙ some) (at ∙ cond-false _ _ _ some ∙ ap (λ (t : Table). record { standing = standing.Stirred; agenda = woke rules w.table t w.agenda; saves = w.saves; table = t; saved = w.saved }) (sym leaves))))
+      (stirs is.aims passed (ap (λ (t : Table). eqb (size_of (t x)) 0) leaves ∙ some) (at ∙ cond-false _ _ _ some ∙ ap (λ (t : Table). record { standing = standing.Stirred; agenda = woke rules w.table t w.agenda; saves = w.saves; table = t; saved = w.saved }) (sym leaves))))
       (cases_Bool (eqb (size_of (kept x row w.table x)) 0))
+
+-- whether there is a row, by what was handed on
+pub row_there : (row : Option (List ℕ)) (e : SessionFault) (r : List ℕ) → ok_or row e ≡ Ok r → row ≡ Some r
+row_there None e r is = absurd (both_ways false refl (ap is_ok is))
+row_there (Some q) e r is = cc
+
+pub row_none : (row : Option (List ℕ)) (e f : SessionFault) → ok_or row e ≡ Err f → (row ≡ None) × (f ≡ e)
+row_none None e f is = (refl, cc)
+row_none (Some q) e f is = absurd (both_ways true (ap is_ok is) refl)
 
 -- what is kept at one variable by a test of its values
 row_at : (t b p q : Bool) → (t ≡ true → p ≡ q) → (t && (not b || p)) ≡ (t && (not b || q))
@@ -72,36 +96,44 @@ struck false b q = refl
 struck true false q = refl
 struck true true q = refl
 
-pub is_strike : (n x : ℕ) (v : ℤ) (row all : List ℕ) (t : Table) (fine : Bool) → Shaped n t → fine ≡ is_value v → ((u : ℤ) → in_row all u ≡ is_value u) → ((u : ℤ) → in_row row u ≡ (in_row all u && not (equal_int u v))) → IsOrder n (Strike x v) x row fine t
-is_strike n x v row all t fine shaped good whole is = record {
-  aims = refl;
-  refuses = λ most w. ap (λ (b : Bool). when (is_failed w.standing) fault.Failed (when (not (ltb x n)) fault.Variable (when (not b) fault.Value None))) (sym good);
-  leaves = fun_ext (λ y. fun_ext (λ u. struck (t y u) (eqb y x) (equal_int u v) ∙ row_at (t y u) (eqb y x) (not (equal_int u v)) (in_row row u) (λ h. sym (is u ∙ ap (λ (b : Bool). b && not (equal_int u v)) (whole u ∙ (shaped y u h).1)))));
-}
+-- what is refused where there is no row
+unfit_row : (n most : ℕ) (w : World) (x : ℕ) (b good : Bool) → b ≡ good → when (is_failed w.standing) fault.Failed (when (not (ltb x n)) fault.Variable (when (not good) fault.Value None)) ≡ when (is_failed w.standing) fault.Failed (when (not (ltb x n)) fault.Variable (when (not b) fault.Value None))
+unfit_row n most w x b good e = ap (λ (q : Bool). when (is_failed w.standing) fault.Failed (when (not (ltb x n)) fault.Variable (when (not q) fault.Value None))) (sym e)
 
-pub is_narrow : (n x : ℕ) (lo hi : ℤ) (row : List ℕ) (t : Table) (fine : Bool) → Shaped n t → fine ≡ (is_value lo && (is_value hi && le_z lo hi)) → ((u : ℤ) → in_row row u ≡ (is_value u && (le_z lo u && le_z u hi))) → IsOrder n (Narrow x lo hi) x row fine t
-is_narrow n x lo hi row t fine shaped good is = record {
+pub is_strike : (n x : ℕ) (v : ℤ) (row : Option (List ℕ)) (t : Table) → Shaped n t → is_some row ≡ is_value v → IfSome row (λ r. (u : ℤ) → in_row r u ≡ (is_value u && not (equal_int u v))) → IsOrder n (Strike x v) x row t
+is_strike n x v row t shaped there is = record {
   aims = refl;
-  refuses = λ most w. ap (λ (b : Bool). when (is_failed w.standing) fault.Failed (when (not (ltb x n)) fault.Variable (when (not b) fault.Value None))) (sym good);
-  leaves = fun_ext (λ y. fun_ext (λ u. row_at (t y u) (eqb y x) (le_z lo u && le_z u hi) (in_row row u) (λ h. sym (is u ∙ ap (λ (b : Bool). b && (le_z lo u && le_z u hi)) (shaped y u h).1))));
+  refuses = λ most w. unfit_row n most w x (is_some row) (is_value v) there;
+  leaves = leaves row is;
 }
+  where
+    leaves : (row : Option (List ℕ)) → IfSome row (λ r. (u : ℤ) → in_row r u ≡ (is_value u && not (equal_int u v))) → IfSome row (λ r. ordered (Strike x v) t ≡ kept x r t)
+    leaves None is = tt
+    leaves (Some r) is = fun_ext (λ y. fun_ext (λ u. struck (t y u) (eqb y x) (equal_int u v) ∙ row_at (t y u) (eqb y x) (not (equal_int u v)) (in_row r u) (λ h. sym (is u ∙ ap (λ (b : Bool). b && not (equal_int u v)) (shaped y u h).1))))
+
+pub is_narrow : (n x : ℕ) (lo hi : ℤ) (row : Option (List ℕ)) (t : Table) → Shaped n t → is_some row ≡ (is_value lo && (is_value hi && le_z lo hi)) → IfSome row (λ r. (u : ℤ) → in_row r u ≡ (is_value u && (le_z lo u && le_z u hi))) → IsOrder n (Narrow x lo hi) x row t
+is_narrow n x lo hi row t shaped there is = record {
+  aims = refl;
+  refuses = λ most w. unfit_row n most w x (is_some row) _ there;
+  leaves = leaves row is;
+}
+  where
+    leaves : (row : Option (List ℕ)) → IfSome row (λ r. (u : ℤ) → in_row r u ≡ (is_value u && (le_z lo u && le_z u hi))) → IfSome row (λ r. ordered (Narrow x lo hi) t ≡ kept x r t)
+    leaves None is = tt
+    leaves (Some r) is = fun_ext (λ y. fun_ext (λ u. row_at (t y u) (eqb y x) (le_z lo u && le_z u hi) (in_row r u) (λ h. sym (is u ∙ ap (λ (b : Bool). b && (le_z lo u && le_z u hi)) (shaped y u h).1))))
 
 -- ---- settles
 
 module _ (f : Frame) (rules : List Rule) (w : World) where
-  pub settle_refused : (w' : World) → w.standing ≡ standing.Failed → w' ≡ w → Steps f rules Settle (answer_of_settle (Err fault.Failed)) w w'
-  settle_refused w' e same = refused (ap (λ (s : Standing). when (is_failed s) fault.Failed None) e) same
+  pub settle_refused : (w' : World) → is_failed w.standing ≡ true → w' ≡ w → Steps f rules Settle (answer_of_settle (Err fault.Failed)) w w'
+  settle_refused w' e same = refused (cond-true _ _ _ e) same
 
-  pub settle_settles : (w' : World) (k before after : ℕ) → (w.standing ≡ standing.Failed → ⊥) → Settles f.vars rules w.agenda w.table k settled w'.table → before ≡ values f.vars w.table → after ≡ values f.vars w'.table → w' ≡ settled_by w'.table w → Steps f rules Settle (answer_of_settle (Ok (propagated.Settled k (before - after)))) w w'
-  settle_settles w' k before after ne run eb ea is =
-      subst (λ m. Steps f rules Settle (answer_of_settle (Ok (propagated.Settled k m))) w w') (sym (ap₂ (λ a b. a - b) eb ea)) (settles (settle_free ne) run is)
-    where
-      settle_free : (w.standing ≡ standing.Failed → ⊥) → when (is_failed w.standing) fault.Failed None ≡ None
-      settle_free ne = cond-false _ _ _ (⊎_elim (λ h. absurd (ne (failed_stands w.standing h))) (λ h. h) (cases_Bool (is_failed w.standing)))
+  pub settle_settles : (w' : World) (k before after : ℕ) → is_failed w.standing ≡ false → Settles f.vars rules w.agenda w.table k settled w'.table → before ≡ values f.vars w.table → after ≡ values f.vars w'.table → w' ≡ settled_by w'.table w → Steps f rules Settle (answer_of_settle (Ok (propagated.Settled k (before - after)))) w w'
+  settle_settles w' k before after e run eb ea is =
+      subst (λ m. Steps f rules Settle (answer_of_settle (Ok (propagated.Settled k m))) w w') (sym (ap₂ (λ a b. a - b) eb ea)) (settles (cond-false _ _ _ e) run is)
 
-  pub settle_breaks : (w' : World) (i k : ℕ) → (w.standing ≡ standing.Failed → ⊥) → Settles f.vars rules w.agenda w.table k (failed i) w'.table → w' ≡ broken_by w'.table w → Steps f rules Settle (answer_of_settle (Ok (propagated.Failed i k))) w w'
-  settle_breaks w' i k ne run is =
-      breaks (cond-false _ _ _ (⊎_elim (λ h. absurd (ne (failed_stands w.standing h))) (λ h. h) (cases_Bool (is_failed w.standing)))) run is
+  pub settle_breaks : (w' : World) (i k : ℕ) → is_failed w.standing ≡ false → Settles f.vars rules w.agenda w.table k (failed i) w'.table → w' ≡ broken_by w'.table w → Steps f rules Settle (answer_of_settle (Ok (propagated.Failed i k))) w w'
+  settle_breaks w' i k e run is = breaks (cond-false _ _ _ e) run is
 
 -- ---- saves and restores
 
@@ -120,17 +152,21 @@ module _ (f : Frame) (rules : List Rule) (w w' : World) where
 pub answered : (f : Frame) (rules : List Rule) (w w' : World) {c d : Call} {a b : Answer} → c ≡ d → a ≡ b → Steps f rules d b w w' → Steps f rules c a w w'
 answered f rules w w' {c} {d} {a} {b} e g step = subst (λ (x : Call). Steps f rules x a w w') (sym e) (subst (λ (y : Answer). Steps f rules d y w w') (sym g) step)
 
--- an answer that is no refusal, by each kind of call
-pub order_granted : (P : Type 0) (r : Result Ordered SessionFault) (a : Answer) → a ≡ answer_of_order r → IfErr r (λ _. P) → granted a ≡ false → P
-order_granted P (Ok outcome.Done) a e p g = absurd (both_ways true (sym (ap granted e) ∙ g) refl)
-order_granted P (Ok outcome.Emptied) a e p g = absurd (both_ways true (sym (ap granted e) ∙ g) refl)
-order_granted P (Err f) a e p g = p
+-- an order, a settle, a save or a restore that was granted
+pub order_fine : (x : Ordered) → granted (answer_of_order (Ok x)) ≡ true
+order_fine outcome.Done = refl
+order_fine outcome.Emptied = refl
 
-pub settle_granted : (P : Type 0) (r : Result Propagated SessionFault) (a : Answer) → a ≡ answer_of_settle r → IfErr r (λ _. P) → granted a ≡ false → P
-settle_granted P (Ok (propagated.Settled k m)) a e p g = absurd (both_ways true (sym (ap granted e) ∙ g) refl)
-settle_granted P (Ok (propagated.Failed i k)) a e p g = absurd (both_ways true (sym (ap granted e) ∙ g) refl)
-settle_granted P (Err f) a e p g = p
+pub settle_fine : (x : Propagated) → granted (answer_of_settle (Ok x)) ≡ true
+settle_fine (propagated.Settled k m) = refl
+settle_fine (propagated.Failed i k) = refl
 
-pub plain_granted : (P : Type 0) (r : Result (Unit {0}) SessionFault) (a : Answer) → a ≡ answer_of_plain r → IfErr r (λ _. P) → granted a ≡ false → P
-plain_granted P (Ok u) a e p g = absurd (both_ways true (sym (ap granted e) ∙ g) refl)
-plain_granted P (Err f) a e p g = p
+-- what was told of a result
+module _ {T : Type 0} (of : Result T SessionFault → Answer) (fine : (x : T) → granted (of (Ok x)) ≡ true) (not_fine : (e : SessionFault) → of (Err e) ≡ answer.Refused e) where
+  pub told_is : (r : Result T SessionFault) (a : Answer) → MatchResult r (λ x. a ≡ of (Ok x)) (λ e. a ≡ answer.Refused e) → a ≡ of r
+  told_is (Ok x) a e = e
+  told_is (Err f) a e = e ∙ sym (not_fine f)
+
+  pub told_granted : (P : Type 0) (r : Result T SessionFault) (a : Answer) → a ≡ of r → IfErr r (λ _. P) → granted a ≡ false → P
+  told_granted P (Ok x) a e p g = absurd (both_ways (granted a) g (ap granted e ∙ fine x))
+  told_granted P (Err f) a e p g = p

@@ -1,5 +1,5 @@
 -- One turn of settling: a rule is taken and run, and those that it woke join.
-use Rattle.std.proofs.Common.{◌≡◌, ℕ, zero, suc, ◌+◌, ◌*◌, ◌<◌, ◌≤◌, Bool, false, List, [], ◌∷◌, length, sym, ap, ◌∙◌, subst, ⊎_elim, arith}
+use Rattle.std.proofs.Common.{◌≡◌, ℕ, zero, suc, ◌+◌, ◌*◌, ◌<◌, ◌≤◌, Bool, false, List, [], ◌∷◌, length, Ok, Err, sym, ap, ◌∙◌, subst, ⊎_elim, arith}
 use mathlib.Core.Path.{fun_ext}
 use Rattle.std.proofs.lemmas.Bool.{both_ways, cases_lt, le-ltb, and_left}
 use Rattle.tables.specs.Values.{value_at}
@@ -7,9 +7,9 @@ use Rattle.tables.specs.Stores.{Frame}
 use Rattle.tables.specs.Tables.{Domain, Table, size_of, Shaped, Inside}
 use Rattle.tables.proofs.Counts.{count_le}
 use Rattle.rules.specs.Rules.{Rule}
-use Rattle.rules.specs.declared.ran.Ran.TheVariants as ran
+use Rattle.rules.specs.declared.ran.Failed.{Failed}
 use Rattle.rules.specs.Banks.{in_set, called, woken, Names, Run}
-use Rattle.rules.proofs.Members.{woken_none}
+use Rattle.rules.proofs.Numbers.{woken_none}
 use Rattle.rules.proofs.Voids.{size_mono}
 use Rattle.sessions.specs.Agendas.{joined}
 use Rattle.sessions.specs.Steps.{values, smaller, woke, Outcome, settled, failed, Settles, rests, fails, runs}
@@ -22,7 +22,7 @@ size_le : (d : Domain) → size_of d ≤ 1024
 unfolding size_of
 size_le d = count_le (λ p. d (value_at p)) 1024
 
-values_le : (n : ℕ) (t : Table) → values n t ≤ 1024 * n
+pub values_le : (n : ℕ) (t : Table) → values n t ≤ 1024 * n
 values_le zero t = omega arith
 values_le (suc n) t = let a = size_le (t n) in let b = values_le n t in omega arith
 
@@ -47,18 +47,18 @@ at_first n t k few short = let v = values_le n t in omega arith
 pub woke_named : (rules : List Rule) (t u : Table) (s rest : List ℕ) → Names s t u → joined rest (woken rules (in_set s)) ≡ woke rules t u rest
 woke_named rules t u s rest named = ap (λ (f : ℕ → Bool). joined rest (woken rules f)) (fun_ext named)
 
-pub turn : (n : ℕ) (rules : List Rule) (a rest rest' s : List ℕ) (i : ℕ) (t u : Table) → a ≡ i ∷ rest → Run n (called rules i) t (ran.Done s) u → rest' ≡ joined rest (woken rules (in_set s)) → (k : ℕ) (o : Outcome) (v : Table) → Settles n rules rest' u k o v → Settles n rules a t (suc k) o v
+pub turn : (n : ℕ) (rules : List Rule) (a rest rest' s : List ℕ) (i : ℕ) (t u : Table) → a ≡ i ∷ rest → Run n (called rules i) t (Ok s) u → rest' ≡ joined rest (woken rules (in_set s)) → (k : ℕ) (o : Outcome) (v : Table) → Settles n rules rest' u k o v → Settles n rules a t (suc k) o v
 turn n rules a rest rest' s i t u is run joins k o v more =
     subst (λ (l : List ℕ). Settles n rules l t (suc k) o v) (sym is) (runs run (subst (λ (l : List ℕ). Settles n rules l u k o v) (joins ∙ woke_named rules t u s rest run.named) more))
 
-pub last_turn : (n : ℕ) (rules : List Rule) (a rest : List ℕ) (i : ℕ) (t u : Table) → a ≡ i ∷ rest → Run n (called rules i) t ran.Failed u → Settles n rules a t 1 (failed i) u
-last_turn n rules a rest i t u is run = subst (λ (l : List ℕ). Settles n rules l t 1 (failed i) u) (sym is) (fails run)
+pub last_turn : (n : ℕ) (rules : List Rule) (a rest : List ℕ) (i : ℕ) (t u : Table) (e : Failed) → a ≡ i ∷ rest → Run n (called rules i) t (Err e) u → Settles n rules a t 1 (failed i) u
+last_turn n rules a rest i t u e is run = subst (λ (l : List ℕ). Settles n rules l t 1 (failed i) u) (sym is) (fails run)
 
 pub no_turn : (n : ℕ) (rules : List Rule) (a : List ℕ) (t : Table) → a ≡ [] → Settles n rules a t 0 settled t
 no_turn n rules a t is = subst (λ (l : List ℕ). Settles n rules l t 0 settled t) (sym is) rests
 
 -- either a value is gone, or none joined
-pub falls : (n : ℕ) (rules : List Rule) (a rest rest' s : List ℕ) (i : ℕ) (t u : Table) → Shaped n t → a ≡ i ∷ rest → Run n (called rules i) t (ran.Done s) u → rest' ≡ joined rest (woken rules (in_set s)) → length rest' ≤ 256 → 257 * values n u + length rest' < 257 * values n t + length a
+pub falls : (n : ℕ) (rules : List Rule) (a rest rest' s : List ℕ) (i : ℕ) (t u : Table) → Shaped n t → a ≡ i ∷ rest → Run n (called rules i) t (Ok s) u → rest' ≡ joined rest (woken rules (in_set s)) → length rest' ≤ 256 → 257 * values n u + length rest' < 257 * values n t + length a
 falls n rules a rest rest' s i t u shaped is run joins short =
     let long = ap length is in
     ⊎_elim
@@ -74,7 +74,7 @@ falls n rules a rest rest' s i t u shaped is run joins short =
     unchanged same x = ⊎_elim (λ low. le-ltb _ _ (values_same n u t run.inside same x low)) (λ high. none_outside n t u shaped x high) (cases_lt x n)
 
 -- one turn more, by the frames that the store has on the way: f at the beginning, e before the turn, d after it
-pub more_turns : (f e d : Frame) (rules : List Rule) (a₀ a rest rest' s : List ℕ) (i r : ℕ) (t₀ t u : Table) → e ≡ f → d ≡ e → Shaped e.vars t → a ≡ i ∷ rest → Run e.vars (called rules i) t (ran.Done s) u → rest' ≡ joined rest (woken rules (in_set s)) → length rest' ≤ 256
+pub more_turns : (f e d : Frame) (rules : List Rule) (a₀ a rest rest' s : List ℕ) (i r : ℕ) (t₀ t u : Table) → e ≡ f → d ≡ e → Shaped e.vars t → a ≡ i ∷ rest → Run e.vars (called rules i) t (Ok s) u → rest' ≡ joined rest (woken rules (in_set s)) → length rest' ≤ 256
     → ((k : ℕ) (o : Outcome) (v : Table) → Settles f.vars rules a t k o v → Settles f.vars rules a₀ t₀ (r + k) o v)
     → r + (257 * values e.vars t + length a) ≤ 67371264
     → ((k : ℕ) (o : Outcome) (v : Table) → Settles f.vars rules rest' u k o v → Settles f.vars rules a₀ t₀ ((r + 1) + k) o v) × ((r + 1) + (257 * values d.vars u + length rest') ≤ 67371264) × (257 * values d.vars u + length rest' < 257 * values e.vars t + length a)
@@ -83,7 +83,7 @@ more_turns f e d rules a₀ a rest rest' s i r t₀ t u ef de shaped is run join
     let less' : 257 * values d.vars u + length rest' < 257 * values e.vars t + length a = subst (λ (h : Frame). 257 * values h.vars u + length rest' < 257 * values e.vars t + length a) (sym de) less in (
       (λ k o v more.
           let sum : r + suc k ≡ (r + 1) + k = omega arith in
-          subst (λ m. Settles f.vars rules a₀ t₀ m o v) sum (inv (suc k) o v (turn f.vars rules a rest rest' s i t u is (subst (λ (h : Frame). Run h.vars (called rules i) t (ran.Done s) u) ef run) joins k o v more))),
+          subst (λ m. Settles f.vars rules a₀ t₀ m o v) sum (inv (suc k) o v (turn f.vars rules a rest rest' s i t u is (subst (λ (h : Frame). Run h.vars (called rules i) t (Ok s) u) ef run) joins k o v more))),
       omega arith,
       less',
     )

@@ -1,5 +1,6 @@
 -- Which rules join the agenda after a change of the table, and the world then.
 use Rattle.std.proofs.Common.{◌≡◌, ℕ, ◌≤◌, Bool, true, false, ◌&&◌, ◌||◌, eqb, ltb, List, sym, refl, ap, ◌∙◌, ap₂, ⊎_elim, arith}
+use Rattle.std.proofs.Math.Bool.{and-true}
 use mathlib.Core.Path.{fun_ext}
 use Rattle.std.proofs.lemmas.Bool.{both_ways, cases_lt, cases_eq, eq-eqb, ne_eqb, lt-ltb, le-ltb, cond-false, and_right}
 use Rattle.tables.specs.Tables.{Table, size_of, Shaped, kept}
@@ -7,10 +8,9 @@ use Rattle.tables.specs.Stores.{answer_keep}
 use Rattle.tables.specs.declared.kept.Kept.{Kept}
 use Rattle.tables.proofs.Counts.{size_none}
 use Rattle.tables.proofs.Keeps.{kept_beside, nothing_outside}
-use Rattle.tables.proofs.Truths.{and_true}
 use Rattle.rules.specs.Rules.{Rule}
 use Rattle.rules.specs.Banks.{in_set, nothing, woken}
-use Rattle.rules.proofs.Members.{nothing_in, woken_none}
+use Rattle.rules.proofs.Numbers.{nothing_in, woken_none}
 use Rattle.sessions.specs.declared.standing.Standing.{Standing}
 use Rattle.sessions.specs.declared.standing.Standing.TheVariants as standing
 use Rattle.sessions.specs.Agendas.{joined}
@@ -28,11 +28,15 @@ world_is {c} {d} {a} {b} {s} {r} {t} {u} {v} {w} p q e f g =
 
 -- ---- one variable
 
--- it got smaller
-pub wakes_one : (rules : List Rule) (agenda after : List ℕ) (set₀ set : List ℕ) (x : ℕ) (b : Bool) → b ≡ true → set₀ ≡ nothing → ((j : ℕ) → in_set set j ≡ (in_set set₀ j || (eqb j x && ltb x 256))) → after ≡ joined agenda (woken rules (in_set set)) → after ≡ joined agenda (woken rules (λ z. b && (eqb z x && ltb x 256)))
-wakes_one rules agenda after set₀ set x b sure none is e =
+-- its set wakes the rules that watch it
+pub wakes_one : (rules : List Rule) (agenda after : List ℕ) (set₀ set : List ℕ) (x : ℕ) → set₀ ≡ nothing → ((j : ℕ) → in_set set j ≡ (in_set set₀ j || (eqb j x && ltb x 256))) → after ≡ joined agenda (woken rules (in_set set)) → after ≡ joined agenda (woken rules (λ z. eqb z x && ltb x 256))
+wakes_one rules agenda after set₀ set x none is e =
     e ∙ ap (λ (s : ℕ → Bool). joined agenda (woken rules s))
-    (fun_ext (λ j. is j ∙ ap (λ (s : List ℕ). in_set s j || (eqb j x && ltb x 256)) none ∙ ap (λ (q : Bool). q || (eqb j x && ltb x 256)) (nothing_in j) ∙ ap (λ (q : Bool). q && (eqb j x && ltb x 256)) (sym sure)))
+    (fun_ext (λ j. is j ∙ ap (λ (s : List ℕ). in_set s j || (eqb j x && ltb x 256)) none ∙ ap (λ (q : Bool). q || (eqb j x && ltb x 256)) (nothing_in j)))
+
+-- it got smaller, and they were woken
+pub wakes_smaller : (rules : List Rule) (agenda after : List ℕ) (x : ℕ) (b : Bool) → b ≡ true → after ≡ joined agenda (woken rules (λ z. eqb z x && ltb x 256)) → after ≡ joined agenda (woken rules (λ z. b && (eqb z x && ltb x 256)))
+wakes_smaller rules agenda after x b sure e = e ∙ ap (λ (q : Bool). joined agenda (woken rules (λ z. q && (eqb z x && ltb x 256)))) (sym sure)
 
 -- it did not
 pub wakes_none : (rules : List Rule) (agenda : List ℕ) (x : ℕ) (b : Bool) → b ≡ false → agenda ≡ joined agenda (woken rules (λ z. b && (eqb z x && ltb x 256)))
@@ -49,7 +53,7 @@ pub kept_smaller : (n x : ℕ) (row : List ℕ) (t : Table) → n ≤ 256 → Sh
 kept_smaller n x row t few shaped z =
     ⊎_elim
     (λ (e : z ≡ x). ⊎_elim
-    (λ low. ap (λ (q : Bool). ltb (size_of (kept x row t x)) (size_of (t x)) && q) (ap₂ (λ (p q : Bool). p && q) (eq-eqb z x e) (lt-ltb x 256 low)) ∙ and_true _ ∙ ap (λ y. smaller t (kept x row t) y) (sym e))
+    (λ low. ap (λ (q : Bool). ltb (size_of (kept x row t x)) (size_of (t x)) && q) (ap₂ (λ (p q : Bool). p && q) (eq-eqb z x e) (lt-ltb x 256 low)) ∙ and-true _ ∙ ap (λ y. smaller t (kept x row t) y) (sym e))
     (λ high.
     let none = size_none (t x) (λ v _. nothing_outside n t shaped x (omega arith) v) in
     let no : ltb (size_of (kept x row t x)) (size_of (t x)) ≡ false = le-ltb _ _ (omega arith) in

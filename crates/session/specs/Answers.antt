@@ -4,8 +4,7 @@ use Rattle.sessions.specs.declared.fault.SessionFault.{SessionFault}
 use Rattle.sessions.specs.declared.answer.Answer.{Answer}
 use Rattle.sessions.specs.declared.answer.Answer.TheVariants as answer
 use Rattle.sessions.specs.Steps.{Outcome, settled, failed}
-use Rattle.session.specs.declared.ended.Ended.{Ended}
-use Rattle.session.specs.declared.ended.Ended.TheVariants as ended
+use Rattle.session.specs.declared.failure.Failure.{Failure}
 use Rattle.session.specs.declared.outcome.Ordered.{Ordered}
 use Rattle.session.specs.declared.outcome.Ordered.TheVariants as ordered
 use Rattle.session.specs.declared.outcome.Propagated.{Propagated}
@@ -26,13 +25,13 @@ answer_of_plain (Ok u) = answer.Done
 answer_of_plain (Err f) = answer.Refused f
 
 -- how many runs were made, and how they ended
-abbrev pub runs_of : Ended → ℕ
-runs_of (ended.Settled k) = k
-runs_of (ended.Failed i k) = k
+abbrev pub runs_of : Result ℕ Failure → ℕ
+runs_of (Ok k) = k
+runs_of (Err f) = f.runs
 
-abbrev pub end_of : Ended → Outcome
-end_of (ended.Settled k) = settled
-end_of (ended.Failed i k) = failed i
+abbrev pub end_of : Result ℕ Failure → Outcome
+end_of (Ok k) = settled
+end_of (Err f) = failed f.rule
 
 -- what a check answers
 abbrev pub verdict : Option SessionFault → Result (Unit {0}) SessionFault

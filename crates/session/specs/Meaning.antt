@@ -1,5 +1,5 @@
 -- What a session means, with the store that it works on.
-use Rattle.std.specs.Prelude.{◌≡◌, ℕ, zero, suc, Bool, cond, not, List, [], ◌∷◌, ◌++◌, length, Some, None, Option, ◌==◌, nat_lt, slice_index_or}
+use Rattle.std.specs.Prelude.{◌≡◌, ℕ, zero, suc, cond, not, List, [], ◌∷◌, ◌++◌, length, Some, None, Option, IfSome, is_none, ◌==◌, nat_lt, slice_index_or}
 use Rattle.tables.specs.Tables.{Table, size_of, kept}
 use Rattle.tables.specs.Stores.{Frame}
 use Rattle.rules.specs.Rules.{Rule}
@@ -35,11 +35,11 @@ abbrev pub beginning : Option SessionFault → List Rule → Table → List Tabl
 beginning None rules t saved = record { standing = standing.Stirred; agenda = upto (length rules); saves = 0; table = t; saved = saved }
 beginning (Some f) rules t saved = record { standing = standing.Failed; agenda = []; saves = 0; table = t; saved = saved }
 
--- a call is an order by which variable x keeps the values of a row, and which is refused where its numbers are not fine
-pub record IsOrder (n : ℕ) (c : Call) (x : ℕ) (row : List ℕ) (fine : Bool) (t : Table) : Type 0 where
+-- a call is an order by which variable x keeps the values of a row, and which is refused where there is no row, since its numbers are not in order
+pub record IsOrder (n : ℕ) (c : Call) (x : ℕ) (row : Option (List ℕ)) (t : Table) : Type 0 where
   pub aims : aimed c ≡ Some x
-  pub refuses : (most : ℕ) (w : World) → refusal n most w c ≡ when (is_failed w.standing) fault.Failed (when (not (nat_lt x n)) fault.Variable (when (not fine) fault.Value None))
-  pub leaves : ordered c t ≡ kept x row t
+  pub refuses : (most : ℕ) (w : World) → refusal n most w c ≡ when (is_failed w.standing) fault.Failed (when (not (nat_lt x n)) fault.Variable (when (is_none row) fault.Value None))
+  pub leaves : IfSome row (λ r. ordered c t ≡ kept x r t)
 
 -- the world after an order that left the table t, by whether its variable x has a value left
 abbrev pub after_order : List Rule → ℕ → Table → World → World

@@ -1,13 +1,15 @@
 // A session: orders are given, rules are run until none removes more, and tables are saved and taken back.
 #![tactic(auto)]
 
-ghost use Rattle.std.specs.Prelude.{◌≡◌, ◌≤◌, min, true, false, not, ◌&&◌, [], length, drop, is_ok, if◌then◌else◌, Some, None, Option, OnErr, ◌==◌, int_le, nat_eq, nat_lt};
-ghost use Rattle.tables.specs.Values.{is_value};
+ghost use Rattle.std.specs.Prelude.{◌≡◌, ◌≤◌, ℤ, IfSome, is_some, min, true, false, not, ◌&&◌, [], length, drop, is_ok, if◌then◌else◌, Some, None, Option, OnErr, MatchResult, ◌==◌, int_le, nat_eq, nat_lt};
+ghost use Rattle.tables.specs.Values.{is_value, equal_int};
+ghost use Rattle.tables.specs.Rows.{in_row};
 ghost use Rattle.tables.specs.Tables.{is_void, kept, size_of};
 ghost use Rattle.sessions.specs.declared.fault.SessionFault.{SessionFault as Faults};
 ghost use Rattle.sessions.specs.declared.call.Call.{Call as Calls};
 ghost use Rattle.sessions.specs.declared.call.Call.TheVariants.{Strike, Narrow, Settle, Save, Restore};
 ghost use Rattle.sessions.specs.declared.fault.SessionFault.TheVariants as fault;
+ghost use Rattle.sessions.specs.declared.answer.Answer.TheVariants.{Refused};
 ghost use Rattle.sessions.specs.Worlds.{is_failed, when, refusal, unfit, refused_start};
 ghost use Rattle.sessions.specs.Steps.{values, settled, Settles, saved_by, restored_by};
 ghost use Rattle.sessions.specs.Histories.{granted, Leads};
@@ -19,15 +21,15 @@ ghost use Rattle.rules.specs.Banks.{in_set, woken};
 ghost use Rattle.session.specs.Answers.{answer_of_order, answer_of_settle, answer_of_plain, runs_of, end_of, verdict, or_rest};
 ghost use Rattle.session.specs.Meaning.{world, Steps, Keeps, KeepsAlong, IsOrder, beginning, after_order, Begins, events};
 
-mod ended;
+mod failure;
 pub mod outcome;
 pub mod state;
 
 use agenda::Agenda;
-use ended::Ended;
+use failure::Failure;
 pub use outcome::{Ordered, Propagated};
 use rules::sets::Set;
-use rules::{Bank, Ran, sets};
+use rules::{Bank, MOST, sets};
 use sessions::{Answer, Call, SessionFault, Standing};
 pub use state::Session;
 use tables::{Domains, Levels, Row, StoreFault, rows};
@@ -44,12 +46,7 @@ fn left<S: Domains>(store: &S, x: usize) -> usize
 fn has_empty<S: Domains>(store: &S, n: usize) -> bool
     ensures { result ≡ is_void n (S.Domains.table store.now) }
 {
-    for x in 0..n {
-        if left(store, x) == 0 {
-            return true;
-        }
-    }
-    false
+    (0..n).any(|x| left(store, x) == 0)
 }
 
 // Whether a number is a value.
@@ -66,32 +63,28 @@ fn is_range(lo: i32, hi: i32) -> bool
     is_value(lo) && is_value(hi) && lo <= hi
 }
 
-// The answers of the calls as answers of a history.
-fn of_order(r: Result<Ordered, SessionFault>) -> Answer
-    ensures { result ≡ answer_of_order r }
+// What an order to strike v keeps, if v is a value.
+fn all_but(v: i32) -> Option<Row>
+    ensures there { is_some result ≡ is_value v }
+    ensures row { IfSome result (λ r. (u : ℤ) → in_row r u ≡ (is_value u && not (equal_int u v))) }
 {
-    match r {
-        Ok(Ordered::Done) => Answer::Done,
-        Ok(Ordered::Emptied) => Answer::Emptied,
-        Err(fault) => Answer::Refused(fault),
-    }
+    is_value(v).then_some(rows::without(rows::all(), v))
 }
 
-fn of_settle(r: Result<Propagated, SessionFault>) -> Answer
-    ensures { result ≡ answer_of_settle r }
+// What an order to narrow to lo and hi keeps, if they are a range.
+fn between(lo: i32, hi: i32) -> Option<Row>
+    ensures there { is_some result ≡ (is_value lo && (is_value hi && int_le lo hi)) }
+    ensures row { IfSome result (λ r. (u : ℤ) → in_row r u ≡ (is_value u && (int_le lo u && int_le u hi))) }
 {
-    match r {
-        Ok(Propagated::Settled { runs, removed }) => Answer::Settled { runs, removed },
-        Ok(Propagated::Failed { rule, runs }) => Answer::Failed { rule, runs },
-        Err(fault) => Answer::Refused(fault),
-    }
+    is_range(lo, hi).then_some(rows::interval(lo, hi))
 }
 
-fn of_plain(r: Result<(), SessionFault>) -> Answer
-    ensures { result ≡ answer_of_plain r }
+// What a call answered, or its refusal, as an answer of a history.
+fn told<T: Into<Answer>>(r: Result<T, SessionFault>) -> Answer
+    ensures { MatchResult r (λ x. T.Into.converts x result) (λ e. result ≡ Refused e) }
 {
     match r {
-        Ok(()) => Answer::Done,
+        Ok(x) => x.into(),
         Err(fault) => Answer::Refused(fault),
     }
 }
@@ -101,12 +94,7 @@ fn total<S: Domains>(store: &S) -> usize
     ensures value { result ≡ values (S.Domains.frame store.now).vars (S.Domains.table store.now) }
     ensures bound { result ≤ 262144 }
 {
-    let n = store.variables();
-    let mut sum = 0;
-    for x in 0..n {
-        sum += left(store, x);
-    }
-    sum
+    (0..store.variables()).map(|x| left(store, x)).sum()
 }
 
 // Whether the rules of a bank fit n variables, else the lowest that does not.
@@ -115,13 +103,14 @@ fn fitting<B: Bank>(bank: &B, n: usize) -> Result<(), SessionFault>
     ensures { (rest : Option Faults) → unfit n 0 (B.Bank.rules bank.now) rest ≡ or_rest result rest }
 {
     for rule in 0..bank.rules() {
-        if let Err(fault) = bank.fit(rule, n) {
-            return Err(SessionFault::Rule { rule, fault });
-        }
+        bank.fit(rule, n)
+            .map_err(|fault| SessionFault::Rule { rule, fault })?;
     }
     Ok(())
 }
 
+// The store and the bank are given to each call, since their owner uses them between calls. Each public call that changes something stands
+// on a private one that makes the step and has one way out to add the promises at.
 impl Session {
     // Whether a session can begin: the store has variables, the bank at most 256 rules that all fit, and no domain is empty.
     pub fn check<S: Levels, B: Bank>(store: &S, bank: &B) -> Result<(), SessionFault>
@@ -131,7 +120,7 @@ impl Session {
         if n == 0 {
             return Err(SessionFault::Variables);
         }
-        if bank.rules() > 256 {
+        if bank.rules() > MOST {
             return Err(SessionFault::Rules);
         }
         fitting(bank, n)?;
@@ -145,17 +134,14 @@ impl Session {
     fn opened<S: Levels, B: Bank>(store: &S, bank: &B) -> Session
         ensures { world result (S.Domains.table store.now) (S.Domains.saved store.now) ≡ beginning (refused_start (S.Domains.frame store.now).vars (B.Bank.rules bank.now) (S.Domains.table store.now)) (B.Bank.rules bank.now) (S.Domains.table store.now) (S.Domains.saved store.now) }
     {
-        match Session::check(store, bank) {
-            Ok(()) => Session {
-                agenda: Agenda::all(bank.rules()),
-                standing: Standing::Stirred,
-                saves: 0,
-            },
-            Err(_) => Session {
-                agenda: Agenda::new(),
-                standing: Standing::Failed,
-                saves: 0,
-            },
+        let (agenda, standing) = match Session::check(store, bank) {
+            Ok(()) => (Agenda::all(bank.rules()), Standing::Stirred),
+            Err(_) => (Agenda::new(), Standing::Failed),
+        };
+        Session {
+            agenda,
+            standing,
+            saves: 0,
         }
     }
 
@@ -184,25 +170,14 @@ impl Session {
         self.agenda.join(rules);
     }
 
-    // The same for one variable, if it got smaller.
-    fn wake_at<B: Bank>(&mut self, bank: &B, x: usize, smaller: bool)
-        ensures agenda { waits self.new.agenda ≡ joined (waits self.old.agenda) (woken (B.Bank.rules bank.now) (λ z. smaller && (z == x && nat_lt x 256))) }
+    // The same for the one variable x.
+    fn wake_at<B: Bank>(&mut self, bank: &B, x: usize)
+        ensures agenda { waits self.new.agenda ≡ joined (waits self.old.agenda) (woken (B.Bank.rules bank.now) (λ z. z == x && nat_lt x 256)) }
         ensures same { (self.new.standing ≡ self.old.standing) × (self.new.saves ≡ self.old.saves) }
     {
-        if smaller {
-            let mut changed = sets::none();
-            sets::insert(&mut changed, x);
-            self.wake(bank, changed);
-        }
-    }
-
-    // An order left variable x a value: the session stands stirred.
-    fn stir<B: Bank>(&mut self, bank: &B, x: usize, smaller: bool)
-        ensures agenda { waits self.new.agenda ≡ joined (waits self.old.agenda) (woken (B.Bank.rules bank.now) (λ z. smaller && (z == x && nat_lt x 256))) }
-        ensures stands { (self.new.standing ≡ Stirred) × (self.new.saves ≡ self.old.saves) }
-    {
-        self.wake_at(bank, x, smaller);
-        self.standing = Standing::Stirred;
+        let mut changed = sets::none();
+        sets::insert(&mut changed, x);
+        self.wake(bank, changed);
     }
 
     // Performs an order by which variable x keeps the values of a row.
@@ -222,43 +197,41 @@ impl Session {
             self.fail();
             return Ordered::Emptied;
         }
-        self.stir(bank, x, kept.smaller);
+        if kept.smaller {
+            self.wake_at(bank, x);
+        }
+        self.standing = Standing::Stirred;
         Ordered::Done
     }
 
-    // Whether an order on variable x of n is taken; `fine` says that its numbers are in order.
-    fn admit(&self, n: usize, x: usize, fine: bool) -> Result<(), SessionFault>
-        ensures { result ≡ verdict (when (is_failed self.now.standing) fault.Failed (when (not (nat_lt x n)) fault.Variable (when (not fine) fault.Value None))) }
+    // Whether an order on variable x of n is taken, if its numbers are in order.
+    fn admit(&self, n: usize, x: usize) -> Result<(), SessionFault>
+        ensures { result ≡ verdict (when (is_failed self.now.standing) fault.Failed (when (not (nat_lt x n)) fault.Variable None)) }
     {
-        if let Standing::Failed = self.standing {
+        if self.standing == Standing::Failed {
             return Err(SessionFault::Failed);
         }
         if x >= n {
             return Err(SessionFault::Variable);
         }
-        if !fine {
-            return Err(SessionFault::Value);
-        }
         Ok(())
     }
 
-    // An order by which variable x keeps the values of a row, unless it is refused; `fine` says that its numbers are in order.
+    // An order by which variable x keeps the values of a row, unless it is refused; there is a row where the order's numbers are in order.
     fn order<S: Levels, B: Bank>(
         &mut self,
         store: &mut S,
         bank: &B,
         x: usize,
-        row: Row,
-        fine: bool,
+        row: Option<Row>,
     ) -> Result<Ordered, SessionFault>
-        ensures step { (c : Calls) → IsOrder (S.Domains.frame store.old).vars c x row fine (S.Domains.table store.old) → Steps (S.Domains.frame store.old) (B.Bank.rules bank.now) c (answer_of_order result) (world self.old (S.Domains.table store.old) (S.Domains.saved store.old)) (world self.new (S.Domains.table store.new) (S.Domains.saved store.new)) }
+        ensures step { (c : Calls) → IsOrder (S.Domains.frame store.old).vars c x row (S.Domains.table store.old) → Steps (S.Domains.frame store.old) (B.Bank.rules bank.now) c (answer_of_order result) (world self.old (S.Domains.table store.old) (S.Domains.saved store.old)) (world self.new (S.Domains.table store.new) (S.Domains.saved store.new)) }
         ensures refused { OnErr result ((self.new ≡ self.old) × (store.new ≡ store.old)) }
         ensures same_frame { S.Domains.frame store.new ≡ S.Domains.frame store.old }
     {
-        match self.admit(store.variables(), x, fine) {
-            Ok(()) => Ok(self.perform(store, bank, x, row)),
-            Err(fault) => Err(fault),
-        }
+        self.admit(store.variables(), x)?;
+        let row = row.ok_or(SessionFault::Value)?;
+        Ok(self.perform(store, bank, x, row))
     }
 
     // Removes the value v of variable x.
@@ -274,8 +247,7 @@ impl Session {
         ensures refused { OnErr result ((self.new ≡ self.old) × (store.new ≡ store.old)) }
         ensures same_frame { S.Domains.frame store.new ≡ S.Domains.frame store.old }
     {
-        let row = rows::without(rows::all(), v);
-        self.order(store, bank, x, row, is_value(v))
+        self.order(store, bank, x, all_but(v))
     }
 
     // Keeps the values from lo to hi of variable x.
@@ -292,12 +264,11 @@ impl Session {
         ensures refused { OnErr result ((self.new ≡ self.old) × (store.new ≡ store.old)) }
         ensures same_frame { S.Domains.frame store.new ≡ S.Domains.frame store.old }
     {
-        let row = rows::interval(lo, hi);
-        self.order(store, bank, x, row, is_range(lo, hi))
+        self.order(store, bank, x, between(lo, hi))
     }
 
     // Runs the waiting rules, the first first, until none waits or one fails; what a run made smaller wakes the rules that watch it.
-    fn propagate<S: Domains, B: Bank>(&mut self, store: &mut S, bank: &B) -> Ended
+    fn propagate<S: Domains, B: Bank>(&mut self, store: &mut S, bank: &B) -> Result<usize, Failure>
         ensures settles { Settles (S.Domains.frame store.old).vars (B.Bank.rules bank.now) (waits self.old.agenda) (S.Domains.table store.old) (runs_of result) (end_of result) (S.Domains.table store.new) }
         ensures same_saved { S.Domains.saved store.new ≡ S.Domains.saved store.old }
         ensures same_frame { S.Domains.frame store.new ≡ S.Domains.frame store.old }
@@ -307,12 +278,10 @@ impl Session {
         let mut runs = 0;
         while let Some(rule) = self.agenda.pop() {
             runs += 1;
-            match bank.run(rule, store) {
-                Ran::Failed => return Ended::Failed { rule, runs },
-                Ran::Done(smaller) => self.wake(bank, smaller),
-            }
+            let smaller = bank.run(rule, store).map_err(|_| Failure { rule, runs })?;
+            self.wake(bank, smaller);
         }
-        Ended::Settled { runs }
+        Ok(runs)
     }
 
     // Settles, unless the session stands failed.
@@ -325,19 +294,19 @@ impl Session {
         ensures refused { OnErr result ((self.new ≡ self.old) × (store.new ≡ store.old)) }
         ensures same_frame { S.Domains.frame store.new ≡ S.Domains.frame store.old }
     {
-        if let Standing::Failed = self.standing {
+        if self.standing == Standing::Failed {
             return Err(SessionFault::Failed);
         }
         let before = total(store);
         match self.propagate(store, bank) {
-            Ended::Settled { runs } => {
+            Ok(runs) => {
                 self.standing = Standing::Settled;
                 Ok(Propagated::Settled {
                     runs,
                     removed: before - total(store),
                 })
             }
-            Ended::Failed { rule, runs } => {
+            Err(Failure { rule, runs }) => {
                 self.fail();
                 Ok(Propagated::Failed { rule, runs })
             }
@@ -419,18 +388,18 @@ impl Session {
         self.try_restore(store)
     }
 
-    // Makes the call that is named.
+    // Makes the call that is named: a caller lists calls as values, so they are an enum and no closures.
     fn dispatch<S: Levels, B: Bank>(&mut self, store: &mut S, bank: &B, call: Call) -> Answer
         ensures step { Steps (S.Domains.frame store.old) (B.Bank.rules bank.now) call result (world self.old (S.Domains.table store.old) (S.Domains.saved store.old)) (world self.new (S.Domains.table store.new) (S.Domains.saved store.new)) }
         ensures refused { granted result ≡ false → (self.new ≡ self.old) × (store.new ≡ store.old) }
         ensures same_frame { S.Domains.frame store.new ≡ S.Domains.frame store.old }
     {
         match call {
-            Call::Strike { x, v } => of_order(self.strike(store, bank, x, v)),
-            Call::Narrow { x, lo, hi } => of_order(self.narrow(store, bank, x, lo, hi)),
-            Call::Settle => of_settle(self.settle(store, bank)),
-            Call::Save => of_plain(self.save(store, bank)),
-            Call::Restore => of_plain(self.restore(store, bank)),
+            Call::Strike { x, v } => told(self.strike(store, bank, x, v)),
+            Call::Narrow { x, lo, hi } => told(self.narrow(store, bank, x, lo, hi)),
+            Call::Settle => told(self.settle(store, bank)),
+            Call::Save => told(self.save(store, bank)),
+            Call::Restore => told(self.restore(store, bank)),
         }
     }
 
@@ -444,7 +413,8 @@ impl Session {
         self.dispatch(store, bank, call)
     }
 
-    // Plays a list of calls and writes the answers, as many as both lists have room for; says how many.
+    // Plays a list of calls and writes the answers, as many as both lists have room for; says how many. The answers are written by their
+    // place, since of a slice that a `zip` of `iter_mut` wrote nothing is known.
     pub fn play<S: Levels, B: Bank>(
         &mut self,
         store: &mut S,
@@ -459,9 +429,8 @@ impl Session {
         ensures same_frame { S.Domains.frame store.new ≡ S.Domains.frame store.old }
     {
         let count = calls.len().min(answers.len());
-        for k in 0..count {
-            let answer = self.answer(store, bank, calls[k]);
-            answers[k] = answer;
+        for (k, call) in calls[..count].iter().enumerate() {
+            answers[k] = self.answer(store, bank, *call);
         }
         count
     }

@@ -9,7 +9,7 @@ use Rattle.tables.proofs.Keeps.{nothing_outside}
 use Rattle.tables.proofs.Truths.{either}
 use Rattle.rules.specs.Rules.{Rule, Lawful, Same, Agree}
 use Rattle.rules.specs.Banks.{called, woken}
-use Rattle.rules.proofs.Members.{woken_one}
+use Rattle.rules.proofs.Numbers.{woken_one}
 use Rattle.rules.proofs.Voids.{full_outside, within_inside, within_full, inside_shaped}
 use Rattle.sessions.specs.Steps.{smaller}
 

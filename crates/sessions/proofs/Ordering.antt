@@ -1,11 +1,11 @@
 -- What holds when an order is performed.
 use Rattle.std.proofs.Common.{◌≡◌, ℕ, ◌<◌, Bool, true, false, not, ◌&&◌, ◌||◌, eqb, List, ℤ, is_some, Some, None, Option, sym, refl, ap, ◌∙◌, subst, ⊎_elim, arith}
+use Rattle.std.proofs.Math.Bool.{and-true}
 use mathlib.Core.Path.{fun_ext}
 use lib.Signed.{le_z}
 use Rattle.std.proofs.lemmas.Bool.{both_ways, cases_eq, eqb-true, eqb-false, eq-eqb, ne_eqb, and_parts, and_from, ltb-true}
 use Rattle.tables.specs.Values.{equal_int}
 use Rattle.tables.specs.Tables.{Domain, Table, size_of, Shaped, is_void, Inside}
-use Rattle.tables.proofs.Truths.{and_true}
 use Rattle.rules.specs.Rules.{Rule}
 use Rattle.rules.specs.Banks.{called}
 use Rattle.rules.proofs.Voids.{full_at, full_from, inside_shaped, size_mono}
@@ -29,9 +29,9 @@ allows Restore y w = true
 pub ordered_is : (c : Call) (t : Table) (y : ℕ) (w : ℤ) → ordered c t y w ≡ (t y w && allows c y w)
 ordered_is (Strike x v) t y w = refl
 ordered_is (Narrow x lo hi) t y w = refl
-ordered_is Settle t y w = sym (and_true (t y w))
-ordered_is Save t y w = sym (and_true (t y w))
-ordered_is Restore t y w = sym (and_true (t y w))
+ordered_is Settle t y w = sym (and-true (t y w))
+ordered_is Save t y w = sym (and-true (t y w))
+ordered_is Restore t y w = sym (and-true (t y w))
 
 -- an order takes away
 pub ordered_inside : (c : Call) (t : Table) → Inside (ordered c t) t
@@ -55,8 +55,8 @@ some_is {a} {b} e = ap got e
 
 -- other variables stay
 pub beside : (c : Call) (x : ℕ) → aimed c ≡ Some x → (t : Table) (y : ℕ) → (y ≡ x → ⊥) → ordered c t y ≡ t y
-beside (Strike z v) x e t y ne = fun_ext (λ w. ap (λ (b : Bool). t y w && not (b && equal_int w v)) (ne_eqb y z (λ q. ne (q ∙ some_is e))) ∙ and_true (t y w))
-beside (Narrow z lo hi) x e t y ne = fun_ext (λ w. ap (λ (b : Bool). t y w && (not b || (le_z lo w && le_z w hi))) (ne_eqb y z (λ q. ne (q ∙ some_is e))) ∙ and_true (t y w))
+beside (Strike z v) x e t y ne = fun_ext (λ w. ap (λ (b : Bool). t y w && not (b && equal_int w v)) (ne_eqb y z (λ q. ne (q ∙ some_is e))) ∙ and-true (t y w))
+beside (Narrow z lo hi) x e t y ne = fun_ext (λ w. ap (λ (b : Bool). t y w && (not b || (le_z lo w && le_z w hi))) (ne_eqb y z (λ q. ne (q ∙ some_is e))) ∙ and-true (t y w))
 beside Settle x e t y ne = refl
 beside Save x e t y ne = refl
 beside Restore x e t y ne = refl

@@ -4,9 +4,8 @@ use Rattle.std.proofs.lemmas.Bool.{both_ways, cases_lt, cases_eq, ne_eqb, eq-eqb
 use Rattle.tables.specs.Tables.{Table, Shaped, is_void, Inside}
 use Rattle.rules.specs.declared.fault.RuleFault.{RuleFault}
 use Rattle.rules.specs.Rules.{Rule, Lawful}
-use Rattle.rules.specs.declared.ran.Ran.TheVariants as ran
 use Rattle.rules.specs.Banks.{called, count_of, woken, filtered, Run}
-use Rattle.rules.proofs.Members.{called_past, woken_nobody}
+use Rattle.rules.proofs.Numbers.{called_past, woken_nobody}
 use Rattle.rules.proofs.Voids.{inside_shaped, within_inside}
 use Rattle.sessions.specs.Agendas.{member}
 use Rattle.sessions.specs.Steps.{smaller, woke, Outcome, settled, failed, Settles, rests, fails, runs}
@@ -68,7 +67,7 @@ module _ (n : ℕ) (rules : List Rule) (fair : Fair n rules) where
   survives b t s most i l u stable = unshrunk_inside n (called rules i) (fair.laws i l) u t stable.shaped s stable.full (stable.unshrunk i l) (most u stable)
 
   -- the first rule of the agenda was run and did not fail
-  pub run_holds : (b : Table) (i : ℕ) (rest s : List ℕ) (t u : Table) → i < length rules → Shaped n t → Holding n rules b (i ∷ rest) t → Run n (called rules i) t (ran.Done s) u → Shaped n u × Holding n rules b (woke rules t u rest) u
+  pub run_holds : (b : Table) (i : ℕ) (rest s : List ℕ) (t u : Table) → i < length rules → Shaped n t → Holding n rules b (i ∷ rest) t → Run n (called rules i) t (Ok s) u → Shaped n u × Holding n rules b (woke rules t u rest) u
   run_holds b i rest s t u l shaped holding run =
       let exact = run.exact holding.full in
       let is : u ≡ (called rules i).filter t = exact.1 ∙ filters i l t in

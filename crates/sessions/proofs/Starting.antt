@@ -89,8 +89,3 @@ restore_granted n most w h =
 -- a session that stands settled does not stand failed
 pub settled_stands : (s : Standing) → s ≡ standing.Settled → is_failed s ≡ false
 settled_stands s e = ap is_failed e
-
-pub failed_stands : (s : Standing) → is_failed s ≡ true → s ≡ standing.Failed
-failed_stands standing.Stirred e = absurd (both_ways false refl e)
-failed_stands standing.Settled e = absurd (both_ways false refl e)
-failed_stands standing.Failed e = refl

@@ -1,16 +1,14 @@
 -- Which rules wait after others have joined.
 use Rattle.std.proofs.Common.{◌≡◌, ℕ, zero, suc, ◌<◌, Bool, true, false, cond, not, ◌&&◌, ◌||◌, eqb, ◌⊎◌, List, [], ◌∷◌, ◌++◌, sym, refl, ap, ◌∙◌, subst, ap₂, inl, inr, ⊎_elim, arith}
+use Rattle.std.proofs.Math.Bool.{or_assoc}
 use Rattle.std.proofs.lemmas.List.{append-nil}
 use Rattle.std.proofs.lemmas.Bool.{both_ways, cases_lt, cases_Bool, eqb-true, eq-eqb, and_parts, and_from, or_cases, or_parts, or_left, or_right, not_from_false}
-use Rattle.sessions.specs.Agendas.{member, select, upto, joined}
-
-or_assoc : (a b c : Bool) → (a || (b || c)) ≡ ((a || b) || c)
-or_assoc true b c = refl
-or_assoc false b c = refl
+use Rattle.rules.specs.Sets.{select}
+use Rattle.sessions.specs.Agendas.{member, upto, joined}
 
 pub member_append : (k : ℕ) (xs ys : List ℕ) → member k (xs ++ ys) ≡ (member k xs || member k ys)
 member_append k [] ys = refl
-member_append k (x ∷ xs) ys = ap (λ (b : Bool). eqb k x || b) (member_append k xs ys) ∙ or_assoc (eqb k x) (member k xs) (member k ys)
+member_append k (x ∷ xs) ys = ap (λ (b : Bool). eqb k x || b) (member_append k xs ys) ∙ sym (or_assoc (eqb k x) (member k xs) (member k ys))
 
 single : (k n : ℕ) (b : Bool) → member k (cond b (n ∷ []) []) ≡ true → (k ≡ n) × (b ≡ true)
 single k n true h = (⊎_elim (λ e. eqb-true k n e) (λ no. absurd (both_ways false refl no)) (or_cases (eqb k n) false h), refl)

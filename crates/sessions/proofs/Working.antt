@@ -8,9 +8,10 @@ use Rattle.tables.proofs.Counts.{count_mono, size_none}
 use Rattle.tables.proofs.Keeps.{nothing_outside}
 use Rattle.rules.specs.Rules.{Rule}
 use Rattle.rules.specs.Banks.{called, some, woken, count_of}
-use Rattle.rules.proofs.Members.{called_past}
+use Rattle.rules.proofs.Numbers.{called_past}
 use Rattle.rules.proofs.Voids.{size_mono, inside_shaped}
-use Rattle.sessions.specs.Agendas.{member, select, joined}
+use Rattle.rules.specs.Sets.{select}
+use Rattle.sessions.specs.Agendas.{member, joined}
 use Rattle.sessions.specs.Steps.{smaller, woke, Outcome, settled, failed, Settles, rests, fails, runs}
 use Rattle.sessions.specs.Numbers.{total}
 use Rattle.sessions.specs.Promises.{watchers, lost}

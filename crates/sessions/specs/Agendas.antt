@@ -1,5 +1,6 @@
 -- The agenda: the rules that wait, in their order.
-use Rattle.std.specs.Prelude.{◌≡◌, ℕ, zero, suc, Bool, true, false, cond, not, ◌&&◌, ◌||◌, List, [], ◌∷◌, ◌++◌, ◌==◌}
+use Rattle.std.specs.Prelude.{◌≡◌, ℕ, Bool, true, false, not, ◌&&◌, ◌||◌, List, [], ◌∷◌, ◌++◌, ◌==◌}
+use Rattle.rules.specs.Sets.{select}
 
 -- whether a list has a number
 abbrev pub member : ℕ → List ℕ → Bool
@@ -10,11 +11,6 @@ member k (x ∷ xs) = k == x || member k xs
 abbrev pub NoTwice : List ℕ → Type 0
 NoTwice [] = Unit {0}
 NoTwice (x ∷ xs) = (member x xs ≡ false) × NoTwice xs
-
--- the numbers below n that pass, ascending
-abbrev pub select : (ℕ → Bool) → ℕ → List ℕ
-select p zero = []
-select p (suc n) = select p n ++ cond (p n) (n ∷ []) []
 
 -- all numbers below n, ascending
 abbrev pub upto : ℕ → List ℕ

@@ -1,4 +1,5 @@
 pub mod Refusals
+pub mod Texts
 pub mod Agendas
 pub mod Worlds
 pub mod Steps

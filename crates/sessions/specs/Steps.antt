@@ -1,9 +1,9 @@
 -- What each call of a session does.
-use Rattle.std.specs.Prelude.{◌≡◌, ℕ, zero, suc, ◌+◌, ◌-◌, Bool, true, false, List, [], ◌∷◌, Some, None, ◌==◌, nat_lt}
+use Rattle.std.specs.Prelude.{◌≡◌, ℕ, zero, suc, ◌+◌, ◌-◌, Bool, true, false, List, [], ◌∷◌, Some, None, Ok, Err, ◌==◌, nat_lt}
 use Rattle.tables.specs.Tables.{Table, size_of}
 use Rattle.tables.specs.Stores.{newest, older}
 use Rattle.rules.specs.Rules.{Rule}
-use Rattle.rules.specs.declared.ran.Ran.TheVariants as ran
+use Rattle.rules.specs.declared.ran.Failed.{Failed as Stop}
 use Rattle.rules.specs.Banks.{called, woken, Run}
 use Rattle.sessions.specs.declared.standing.Standing.TheVariants as standing
 use Rattle.sessions.specs.declared.call.Call.{Call}
@@ -37,9 +37,9 @@ pub data Settles (n : ℕ) (rules : List Rule) : List ℕ → Table → ℕ → 
   -- no rule waits
   rests : {t : Table} → Settles n rules [] t 0 settled t
   -- the first waiting rule fails; the table is then free content inside the earlier one
-  fails : {i : ℕ} {rest : List ℕ} {t u : Table} → Run n (called rules i) t ran.Failed u → Settles n rules (i ∷ rest) t 1 (failed i) u
+  fails : {i : ℕ} {rest : List ℕ} {t u : Table} {e : Stop} → Run n (called rules i) t (Err e) u → Settles n rules (i ∷ rest) t 1 (failed i) u
   -- it does not fail; it waits no more, what it woke joins, itself perhaps, and so on
-  runs : {i : ℕ} {rest s : List ℕ} {t u v : Table} {k : ℕ} {o : Outcome} → Run n (called rules i) t (ran.Done s) u → Settles n rules (woke rules t u rest) u k o v → Settles n rules (i ∷ rest) t (suc k) o v
+  runs : {i : ℕ} {rest s : List ℕ} {t u v : Table} {k : ℕ} {o : Outcome} → Run n (called rules i) t (Ok s) u → Settles n rules (woke rules t u rest) u k o v → Settles n rules (i ∷ rest) t (suc k) o v
 
 -- the world after an order that left its variable a value
 abbrev pub stirred_by : List Rule → Call → World → World

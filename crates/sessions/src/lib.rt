@@ -6,6 +6,7 @@ pub mod call;
 pub mod fault;
 pub mod refusals;
 pub mod standing;
+pub mod texts;
 
 pub use answer::Answer;
 pub use call::Call;

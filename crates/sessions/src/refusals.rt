@@ -1,13 +1,15 @@
-// The numbers of the refusals, and how a store's refusal goes up.
+// The numbers of the refusals, how a store's refusal goes up, and how a save or a restore is answered.
 ghost use Rattle.std.specs.Prelude.{◌≡◌};
 ghost use Rattle.sessions.specs.Refusals.{number_of};
 ghost use Rattle.sessions.specs.declared.fault.SessionFault.TheVariants.{Store};
+ghost use Rattle.sessions.specs.declared.answer.Answer.TheVariants.{Done};
 
+use crate::answer::Answer;
 use crate::fault::SessionFault;
 use tables::StoreFault;
 
 impl SessionFault {
-    // The number by which users know the refusal.
+    // The number by which users know the refusal; a `From` for u8 would only say the same under another name.
     pub fn number(self) -> u8
         ensures { result ≡ number_of self }
     {
@@ -32,5 +34,14 @@ impl From<StoreFault> for SessionFault {
 
     fn from(refusal: StoreFault) -> Self {
         SessionFault::Store(refusal)
+    }
+}
+
+// A call that was performed and has nothing to tell.
+impl From<()> for Answer {
+    ghost from_gives = { λ _ a. a ≡ Done };
+
+    fn from(_done: ()) -> Self {
+        Answer::Done
     }
 }

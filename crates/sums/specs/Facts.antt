@@ -1,5 +1,6 @@
 -- The laws of sums, which ghost members name.
-use Rattle.std.specs.Prelude.{◌≡◌, ℕ, ◌≤◌, Bool, true, false, cond, not, ◌&&◌, ◌||◌, List, [], ◌∷◌, length, ℤ, pos, ◌+ℤ◌, ◌-ℤ◌, neg_ℤ, ◌≤ℤ◌, is_ok, Ok, Err, Result, ◌==◌, int_le, nat_le, refl}
+use Rattle.std.specs.Prelude.{◌≡◌, ℕ, ◌≤◌, Bool, true, false, cond, not, ◌&&◌, ◌||◌, List, [], ◌∷◌, map, length, ℤ, pos, ◌+ℤ◌, ◌-ℤ◌, neg_ℤ, ◌≤ℤ◌, is_ok, Ok, Err, Result, ◌==◌, int_le, nat_le, refl}
+use Rattle.std.proofs.Math.Bool.{and-true}
 use Rattle.std.proofs.Common.{sym, ap, ap₂, subst, ◌∙◌, inl, inr, ⊎_elim, arith}
 use Rattle.std.proofs.Math.Path.{fun_ext}
 use Rattle.std.proofs.lemmas.Int.{ints}
@@ -7,19 +8,17 @@ use Rattle.std.proofs.lemmas.Bool.{both_ways, cases_Bool, leb-true, eqb-true, eq
 use Rattle.tables.specs.Values.{equal_int}
 use Rattle.tables.specs.Tables.{Domain, Table, Shaped, is_void, Inside, Within}
 use Rattle.tables.proofs.Places.{equal_true, equal_same}
-use Rattle.tables.proofs.Truths.{and_true, le_true, true_le, asked, answered, unasked}
+use Rattle.tables.proofs.Truths.{le_true, true_le, asked, answered, unasked}
 use Rattle.rules.specs.declared.fault.RuleFault.{RuleFault}
 use Rattle.rules.specs.declared.fault.RuleFault.TheVariants.{Variable, Value, Length}
 use Rattle.rules.specs.Rules.{Assignment, at, In, Single, Lawful}
 use Rattle.rules.specs.Banks.{Lawfully}
 use Rattle.rules.proofs.Voids.{void_inside, within_inside, in_full}
 use Rattle.filters.specs.Facts.{listed_lawful}
-use Rattle.sums.specs.declared.bank.Sums.{Sums}
 use Rattle.sums.specs.declared.rule.Sign.{Sign}
 use Rattle.sums.specs.declared.rule.Sum.{Sum}
 use Rattle.sums.specs.declared.rule.Term.{Term}
 use Rattle.sums.specs.Sums.{signed, lowest, highest, lo, hi, total, Window, windows, passes, balanced, on_any, are_below, in_reach, worth, balance, sum}
-use Rattle.sums.specs.Meaning.{rules_of}
 use Rattle.sums.specs.Bounds.{added, head_below, tail_below, lo_mono, hi_mono, los_mono, his_mono, lo_le, hi_ge, los_le, his_ge, los_one, his_one}
 
 -- ---- windows
@@ -132,7 +131,7 @@ module _ (n : ℕ) (c : ℤ) where
       λ z l. and_from (d z (at a z)) _ (h.1 z l) (passes_sound n c d s a h ms (pos 0) (pos 0) (pos 0) (omega (arith, ints)) (omega (arith, ints)) below (zero_plus (total (worth a) ms) c (equal_true (total (worth a) ms +ℤ c) (pos 0) obeys)) z),
     );
     decides = λ d s single same a h. decided ms some below d s single a h (within_inside n d (balanced c ms d) same.1 (in_full n d a s h));
-    outside = λ d s z h. fun_ext (λ v. ap (λ (b : Bool). d z v && b) (passes_outside c d ms (pos 0) (pos 0) z v h) ∙ and_true (d z v));
+    outside = λ d s z h. fun_ext (λ v. ap (λ (b : Bool). d z v && b) (passes_outside c d ms (pos 0) (pos 0) z v h) ∙ and-true (d z v));
     local = λ d e s u f g agree. inr (λ z h. let ws = windows_same c d e ms (pos 0) (pos 0) (pos 0) (pos 0) refl refl agree in ap₂ (λ (p : Domain) (w : List Window). λ (v : ℤ). p v && passes w z v) (agree z h) ws);
   }
     where
@@ -151,6 +150,6 @@ module _ (n : ℕ) (c : ℤ) where
 pub sum_lawful : (s : Sum) (n : ℕ) → (sum s).fit n ≡ Ok tt → Lawful n (sum s)
 sum_lawful s n e = let m = fit_means s.c s.terms.now n e in balance_lawful n s.c s.terms.now m.2 m.0
 
--- each rule that fits keeps the laws
-pub sums_lawful : (b : Sums) → Lawfully (rules_of b)
-sums_lawful b = listed_lawful sum sum_lawful b.rules.now
+-- each rule of a list that fits keeps the laws
+pub sums_lawful : (ss : List Sum) → Lawfully (map sum ss)
+sums_lawful = listed_lawful sum sum_lawful

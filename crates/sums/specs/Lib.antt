@@ -1,4 +1,3 @@
 pub mod Sums
-pub mod Meaning
 pub mod Bounds
 pub mod Facts

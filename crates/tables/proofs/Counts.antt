@@ -1,5 +1,9 @@
 -- Counts over the numbers below a bound, and the sizes of domains.
-use Rattle.std.proofs.Common.{◌≡◌, ℕ, zero, suc, ◌+◌, ◌-◌, ◌*◌, ◌^◌, ◌<◌, ◌≤◌, Bool, true, false, cond, List, get_or, ℤ, sym, refl, ap, ◌∙◌, subst, ap₂, ⊎_elim, add-zero, add-suc, mod-eq_of_lt, arith}
+use Rattle.std.proofs.lemmas.List.{get_or_past, take_all}
+use Rattle.std.proofs.lemmas.List.Sums.{sum_by_push}
+use Rattle.std.proofs.Math.Seq.{take-suc}
+use Rattle.std.specs.List.{sum_by}
+use Rattle.std.proofs.Common.{length, take, ◌≡◌, ℕ, zero, suc, ◌+◌, ◌*◌, ◌^◌, ◌<◌, ◌≤◌, Bool, true, false, cond, List, get_or, ℤ, sym, refl, ap, ◌∙◌, subst, ap₂, ⊎_elim, add-zero, add-suc, mod-eq_of_lt, arith}
 use lib.Count.{ones}
 use Rattle.std.proofs.lemmas.Bool.{both_ways, cases_lt}
 use Rattle.tables.specs.Values.{is_value, place, value_at}
@@ -86,13 +90,29 @@ count_word row j h =
     (count_ext (λ k. at_place row (64 * j + k)) (bit (get_or row j 0)) 64 (at_word row j)
     ∙ count_bits (get_or row j 0) 64 ∙ ap ones (mod-eq_of_lt h))
 
--- the words that are there say all
-pub size_by_words : (row : List ℕ) (m : ℕ) → m ≤ 16 → ((p : ℕ) → 64 * m ≤ p → p < 1024 → at_place row p ≡ false) → size_of (in_row row) ≡ count (at_place row) (64 * m)
+-- words past the end are 0, and have none
+count_words : (row : List ℕ) → ((i : ℕ) → get_or row i 0 < 2 ^ 64) → (n : ℕ) → sum_by (λ w. ones w) (take n row) ≡ count (at_place row) (64 * n)
+unfolding ones
+count_words row fits zero = refl
+count_words row fits (suc n) =
+    let e : 64 * suc n ≡ 64 * n + 64 = omega arith in
+    one_more ∙ ap (λ m. m + ones (get_or row n 0)) (count_words row fits n) ∙ sym (ap (count (at_place row)) e ∙ count_word row n (fits n))
+  where
+    one_more : sum_by (λ w. ones w) (take (suc n) row) ≡ sum_by (λ w. ones w) (take n row) + ones (get_or row n 0)
+    one_more =
+        ⊎_elim
+        (λ l. ap (sum_by (λ w. ones w)) (take-suc row n 0 l) ∙ sum_by_push (λ w. ones w) (take n row) (get_or row n 0))
+        (λ l.
+        let s : take (suc n) row ≡ take n row = take_all (suc n) row (omega arith) ∙ sym (take_all n row l) in
+        let z : ◌≡◌ {A = ℕ} (ones (get_or row n 0)) 0 = ap ones (get_or_past row n 0 l) in
+        ap (sum_by (λ w. ones w)) s ∙ omega arith)
+        (cases_lt n (length row))
+
+-- the first sixteen words say all
+pub size_by_words : (row : List ℕ) → ((i : ℕ) → get_or row i 0 < 2 ^ 64) → sum_by (λ w. ones w) (take 16 row) ≡ size_of (in_row row)
 unfolding size_of
-size_by_words row m h f =
-    let e : 64 * m + (1024 - 64 * m) ≡ 1024 = omega arith in
-    count_ext (λ p. in_row row (value_at p)) (at_place row) 1024 (in_row_at row)
-    ∙ ap (count (at_place row)) (sym e)
-    ∙ count_add (at_place row) (64 * m) (1024 - 64 * m)
-    ∙ ap (λ n. count (at_place row) (64 * m) + n) (count_none (λ k. at_place row (64 * m + k)) (1024 - 64 * m) (λ k l. f (64 * m + k) (omega arith) (omega arith)))
-    ∙ add-zero (count (at_place row) (64 * m))
+size_by_words row fits = count_words row fits 16 ∙ sym (count_ext (λ p. in_row row (value_at p)) (at_place row) 1024 (in_row_at row))
+
+pub size_le : (d : Domain) → size_of d ≤ 1024
+unfolding size_of
+size_le d = count_le (λ p. d (value_at p)) 1024

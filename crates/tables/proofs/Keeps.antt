@@ -1,8 +1,8 @@
 -- What a keep does to a table.
 use Rattle.std.proofs.Common.{◌≡◌, ℕ, ◌≤◌, Bool, false, not, ◌&&◌, ◌||◌, eqb, ltb, List, ℤ, sym, ap, ◌∙◌, ap₂, ⊎_elim, arith}
+use Rattle.std.proofs.Math.Bool.{and-true}
 use mathlib.Core.Path.{fun_ext}
 use Rattle.std.proofs.lemmas.Bool.{cases_eq, cases_Bool, eq-eqb, ne_eqb}
-use Rattle.tables.proofs.Truths.{and_true}
 use Rattle.tables.specs.Rows.{in_row}
 use Rattle.tables.specs.Tables.{Domain, Table, size_of, Shaped, kept}
 use Rattle.tables.specs.declared.kept.Kept.{Kept}
@@ -14,20 +14,11 @@ kept_here x row t y v e = ap (λ (b : Bool). t y v && (not b || in_row row v)) (
 
 -- every other one
 pub kept_beside : (x : ℕ) (row : List ℕ) (t : Table) (y : ℕ) (v : ℤ) → (y ≡ x → ⊥) → kept x row t y v ≡ t y v
-kept_beside x row t y v ne = ap (λ (b : Bool). t y v && (not b || in_row row v)) (ne_eqb y x ne) ∙ and_true (t y v)
+kept_beside x row t y v ne = ap (λ (b : Bool). t y v && (not b || in_row row v)) (ne_eqb y x ne) ∙ and-true (t y v)
 
 -- a shaped table has nothing outside
 pub nothing_outside : (n : ℕ) (t : Table) → Shaped n t → (x : ℕ) → n ≤ x → (v : ℤ) → t x v ≡ false
 nothing_outside n t shaped x h v = ⊎_elim (λ yes. absurd (omega (arith, (shaped x v yes).0))) (λ no. no) (cases_Bool (t x v))
-
--- a keep outside changes nothing
-pub kept_outside : (n x : ℕ) (row : List ℕ) (t : Table) → Shaped n t → n ≤ x → t ≡ kept x row t
-kept_outside n x row t shaped h =
-    fun_ext (λ y. fun_ext (λ v.
-    sym (⊎_elim
-    (λ (e : y ≡ x). let none : t y v ≡ false = nothing_outside n t shaped y (omega arith) v in ap (λ (b : Bool). b && (not (eqb y x) || in_row row v)) none ∙ sym none)
-    (λ ne. kept_beside x row t y v ne)
-    (cases_eq y x))))
 
 -- the answer of a keep by its two parts
 pub kept_is : {a b : Bool} (d e : Domain) → a ≡ ltb (size_of e) (size_of d) → b ≡ eqb (size_of e) 0 → ◌≡◌ {A = Kept} (record { smaller = a; empty = b }) (answer_keep d e)

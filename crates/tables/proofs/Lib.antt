@@ -2,6 +2,8 @@ pub mod Truths
 pub mod Words
 pub mod Zeros
 pub mod Places
+pub mod Made
 pub mod Counts
 pub mod Ends
+pub mod Finds
 pub mod Keeps

@@ -1,11 +1,14 @@
 -- The bits of one word: of 0, of a mask, of the operations on words, and that the bits fix the word.
-use Rattle.std.proofs.Common.{◌≡◌, ℕ, zero, suc, ◌+◌, ◌-◌, ◌*◌, ◌/◌, ◌%◌, ◌^◌, ◌<◌, ◌≤◌, Bool, true, false, cond, not, ◌&&◌, ◌||◌, eqb, ltb, sym, refl, ap, ◌∙◌, subst, ap₂, inl, inr, ⊎_elim, mod-eq_of_lt, mul_comm, pow-suc, arith, pow_mono, shr_lt}
+use Rattle.std.proofs.Common.{min, max, ◌≡◌, ℕ, zero, suc, ◌+◌, ◌-◌, ◌*◌, ◌/◌, ◌%◌, ◌^◌, ◌<◌, ◌≤◌, true, false, cond, not, ◌&&◌, ◌||◌, eqb, ltb, sym, refl, ap, ◌∙◌, subst, ap₂, ⊎_elim, mul_comm, pow-suc, arith, pow_mono, shr_lt}
 use native.Mathlib.Nat.{div-eq_of_lt, mul-sub}
-use lib.Bits.{bit_and, bit_or, and_shr, and_mod, or_shr, or_mod, and_zero_l, or_zero_l}
-use lib.Pow.{ones_split, high, split, pow-lt}
+use lib.Bits.{bit_and, bit_or}
+use lib.Pow.{high, split}
 use lib.Count.{ones, ones_cat}
-use Rattle.std.proofs.lemmas.Nat.{pow_pos, pow-add, shl-shr, mod-pow-add, mul-le}
-use Rattle.std.proofs.lemmas.Bool.{cases_lt, lt-ltb, le-ltb, eq-eqb, ne_eqb, cases_order, both_ways}
+use Rattle.std.proofs.lemmas.Nat.{pow_pos, pow-add, mod-pow-add, mul-le}
+use Rattle.std.proofs.lemmas.Bool.{cases_lt, lt-ltb, le-ltb, eq-eqb, ne_eqb, both_ways}
+use Rattle.std.proofs.lemmas.Nat.Bits.{bit_at_and, bit_at_or, bit_at_ones, bit_at_ones_above, bit_at-pow_same, bit_at-pow_other, same_from_bits_below}
+use Rattle.std.proofs.lemmas.Bool.Decides.{nat_tests}
+use Rattle.std.proofs.lemmas.Bool.{cases_eq}
 use Rattle.tables.specs.Rows.{bit}
 use Rattle.tables.specs.Tables.{count}
 
@@ -20,71 +23,37 @@ bit_below n w k h t = ⊎_elim (λ l. l) (λ l. absurd (both_ways (bit w k) (bit
 pub bit_zero : (k : ℕ) → bit 0 k ≡ false
 bit_zero k = bit_past 0 k (pow_pos k)
 
-and_digit : (a b : ℕ) → a < 2 → b < 2 → eqb (bit_and a b) 1 ≡ (eqb a 1 && eqb b 1)
-and_digit zero b p q = ap (λ n. eqb n 1) (and_zero_l b)
-and_digit (suc zero) zero p q = refl
-and_digit (suc zero) (suc zero) p q = refl
-and_digit (suc zero) (suc (suc b)) p q = absurd (omega arith)
-and_digit (suc (suc a)) b p q = absurd (omega arith)
+-- a digit is 0 or 1
+and_digit : (a b : ℕ) → a < 2 → b < 2 → eqb (min a b) 1 ≡ (eqb a 1 && eqb b 1)
+and_digit a b p q = grind (arith, nat_tests)
 
-or_digit : (a b : ℕ) → a < 2 → b < 2 → eqb (bit_or a b) 1 ≡ (eqb a 1 || eqb b 1)
-or_digit zero b p q = ap (λ n. eqb n 1) (or_zero_l b)
-or_digit (suc zero) zero p q = refl
-or_digit (suc zero) (suc zero) p q = refl
-or_digit (suc zero) (suc (suc b)) p q = absurd (omega arith)
-or_digit (suc (suc a)) b p q = absurd (omega arith)
+or_digit : (a b : ℕ) → a < 2 → b < 2 → eqb (max a b) 1 ≡ (eqb a 1 || eqb b 1)
+or_digit a b p q = grind (arith, nat_tests)
+
+same_digit : (a b : ℕ) → a < 2 → b < 2 → eqb a 1 ≡ eqb b 1 → a ≡ b
+same_digit a b p q e = grind (arith, nat_tests)
 
 pub and_bits : (a b k : ℕ) → bit (bit_and a b) k ≡ (bit a k && bit b k)
-and_bits a b k =
-    ap (λ n. eqb n 1) (ap (λ n. n % 2) (and_shr a b k) ∙ and_mod (a / 2 ^ k) (b / 2 ^ k) 1)
-    ∙ and_digit (a / 2 ^ k % 2) (b / 2 ^ k % 2) (omega arith) (omega arith)
+and_bits a b k = ap (λ n. eqb n 1) (bit_at_and a b k) ∙ and_digit (a / 2 ^ k % 2) (b / 2 ^ k % 2) (omega arith) (omega arith)
 
 pub or_bits : (a b k : ℕ) → bit (bit_or a b) k ≡ (bit a k || bit b k)
-or_bits a b k =
-    ap (λ n. eqb n 1) (ap (λ n. n % 2) (or_shr a b k) ∙ or_mod (a / 2 ^ k) (b / 2 ^ k) 1)
-    ∙ or_digit (a / 2 ^ k % 2) (b / 2 ^ k % 2) (omega arith) (omega arith)
+or_bits a b k = ap (λ n. eqb n 1) (bit_at_or a b k) ∙ or_digit (a / 2 ^ k % 2) (b / 2 ^ k % 2) (omega arith) (omega arith)
 
 -- the mask of the lowest n bits
 pub bit_low : (n k : ℕ) → bit (2 ^ n - 1) k ≡ ltb k n
-bit_low n k = ⊎_elim inside outside (cases_lt k n)
-  where
-    inside : k < n → bit (2 ^ n - 1) k ≡ ltb k n
-    inside h =
-        let m : ℕ = n - suc k in
-        let e : suc m + k ≡ n = omega arith in
-        let q : (2 ^ n - 1) / 2 ^ k ≡ 2 ^ suc m - 1 = ap (λ i. (2 ^ i - 1) / 2 ^ k) (sym e) ∙ ap (λ i. i / 2 ^ k) (ones_split (suc m) k) ∙ high (2 ^ suc m - 1) k (omega (arith, pow_pos k)) in
-        let odd : (2 ^ suc m - 1) % 2 ≡ 1 = omega (arith, pow-suc 2 m, pow_pos m) in
-        ap (λ i. eqb (i % 2) 1) q ∙ ap (λ i. eqb i 1) odd ∙ sym (lt-ltb k n h)
-
-    outside : n ≤ k → bit (2 ^ n - 1) k ≡ ltb k n
-    outside h = bit_past (2 ^ n - 1) k (omega (arith, pow_mono h, pow_pos n)) ∙ sym (le-ltb k n h)
+bit_low n k = ⊎_elim (λ h. ap (λ d. eqb d 1) (bit_at_ones n k h) ∙ sym (lt-ltb k n h)) (λ h. ap (λ d. eqb d 1) (bit_at_ones_above n k h) ∙ sym (le-ltb k n h)) (cases_lt k n)
 
 -- the mask of one bit
 pub bit_one : (b k : ℕ) → bit (2 ^ b) k ≡ eqb k b
-bit_one b k = ⊎_elim same (⊎_elim under over) (cases_order k b)
-  where
-    same : k ≡ b → bit (2 ^ b) k ≡ eqb k b
-    same e =
-        let p = pow_pos b in
-        let q : 2 ^ b / 2 ^ b ≡ 1 = ap (λ n. n / 2 ^ b) (sym (omega arith)) ∙ shl-shr 1 b in
-        ap (bit (2 ^ b)) e ∙ ap (λ n. eqb (n % 2) 1) q ∙ sym (eq-eqb k b e)
-
-    under : k < b → bit (2 ^ b) k ≡ eqb k b
-    under h =
-        let m : ℕ = b - suc k in
-        let e : suc m + k ≡ b = omega arith in
-        let q : 2 ^ b / 2 ^ k ≡ 2 ^ suc m = ap (λ i. 2 ^ i / 2 ^ k) (sym e) ∙ ap (λ i. i / 2 ^ k) (pow-add 2 (suc m) k) ∙ shl-shr (2 ^ suc m) k in
-        let even : 2 ^ suc m % 2 ≡ 0 = omega (arith, pow-suc 2 m) in
-        ap (λ i. eqb (i % 2) 1) q ∙ ap (λ i. eqb i 1) even ∙ sym (ne_eqb k b (λ z. omega arith))
-
-    over : b < k → bit (2 ^ b) k ≡ eqb k b
-    over h = bit_past (2 ^ b) k (pow-lt h) ∙ sym (ne_eqb k b (λ z. omega arith))
+bit_one b k =
+    ⊎_elim
+    (λ e. ap (bit (2 ^ b)) e ∙ ap (λ d. eqb d 1) (bit_at-pow_same b) ∙ sym (eq-eqb k b e))
+    (λ ne. ap (λ d. eqb d 1) (bit_at-pow_other b k ne) ∙ sym (ne_eqb k b ne))
+    (cases_eq k b)
 
 -- the other digit
 flip_digit : (m q : ℕ) → q < m * 2 → eqb ((m * 2 - 1 - q) % 2) 1 ≡ not (eqb (q % 2) 1)
-flip_digit m q h = ⊎_elim (λ (e : q % 2 ≡ 0). ap (λ n. eqb n 1) (let f : (m * 2 - 1 - q) % 2 ≡ 1 = omega arith in f) ∙ ap (λ n. not (eqb n 1)) (sym e))
-    (λ (e : q % 2 ≡ 1). ap (λ n. eqb n 1) (let f : (m * 2 - 1 - q) % 2 ≡ 0 = omega arith in f) ∙ ap (λ n. not (eqb n 1)) (sym e))
-    (⊎_elim (λ h. inl (omega arith)) (λ h. inr (omega arith)) (cases_lt (q % 2) 1))
+flip_digit m q h = grind (arith, nat_tests)
 
 -- a number below a * b, taken from a * b - 1, by quotient and remainder
 flip_parts : (a b q r w : ℕ) → w ≡ q * b + r → r < b → q < a → a * b - 1 - w ≡ (a - (1 + q)) * b + (b - 1 - r)
@@ -108,28 +77,9 @@ bit_not n w k h b =
     let flat : 2 ^ suc m - (1 + q) ≡ 2 ^ m * 2 - 1 - q = omega arith in
     ap (λ i. eqb (i % 2) 1) (quotient ∙ flat) ∙ flip_digit (2 ^ m) q (omega arith)
 
-same_digit : (a b : ℕ) → a < 2 → b < 2 → eqb a 1 ≡ eqb b 1 → a ≡ b
-same_digit zero zero p q e = refl
-same_digit zero (suc zero) p q e = absurd (subst (λ (t : Bool). cond t ⊥ (Unit {0})) e tt)
-same_digit (suc zero) zero p q e = absurd (subst (λ (t : Bool). cond t (Unit {0}) ⊥) e tt)
-same_digit (suc zero) (suc zero) p q e = refl
-same_digit zero (suc (suc b)) p q e = absurd (omega arith)
-same_digit (suc zero) (suc (suc b)) p q e = absurd (omega arith)
-same_digit (suc (suc a)) b p q e = absurd (omega arith)
-
--- a number's lowest n bits fix its remainder
-pub bits_mod : (n a b : ℕ) → ((k : ℕ) → k < n → bit a k ≡ bit b k) → a % 2 ^ n ≡ b % 2 ^ n
-bits_mod zero a b f = omega arith
-bits_mod (suc n) a b f =
-    let e : suc n ≡ 1 + n = omega arith in
-    let here : a / 2 ^ n % 2 ≡ b / 2 ^ n % 2 = same_digit (a / 2 ^ n % 2) (b / 2 ^ n % 2) (omega arith) (omega arith) (f n (omega arith)) in
-    ap (λ i. a % 2 ^ i) e ∙ mod-pow-add a 1 n
-    ∙ ap₂ (λ i j. i * 2 ^ n + j) here (bits_mod n a b (λ k h. f k (omega arith)))
-    ∙ sym (ap (λ i. b % 2 ^ i) e ∙ mod-pow-add b 1 n)
-
 -- words with the same bits are the same
 pub bits_same : (n a b : ℕ) → a < 2 ^ n → b < 2 ^ n → ((k : ℕ) → k < n → bit a k ≡ bit b k) → a ≡ b
-bits_same n a b p q f = sym (mod-eq_of_lt p) ∙ bits_mod n a b f ∙ mod-eq_of_lt q
+bits_same n a b p q f = same_from_bits_below n a b p q (λ k h. same_digit (a / 2 ^ k % 2) (b / 2 ^ k % 2) (omega arith) (omega arith) (f k h))
 
 one_digit : (d : ℕ) → d < 2 → cond (eqb d 1) 1 0 ≡ ones d
 unfolding ones

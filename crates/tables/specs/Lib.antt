@@ -2,3 +2,4 @@ pub mod Values
 pub mod Rows
 pub mod Tables
 pub mod Stores
+pub mod Texts

@@ -18,21 +18,6 @@ pub trait Domains {
     // what no call changes: n, L, which memory was lent and what it holds past the store's need
     ghost frame: { Self → Frame };
 
-    // The facts below hold of every store. They stand for laws of the trait: each is a term of its fact.
-
-    // nothing but values, and nothing for other variables
-    ghost shaped: { (s : Self) → Shaped (frame s).vars (table s) };
-
-    // so it is with each saved table
-    ghost shapes: { (s : Self) → AllShaped (frame s).vars (saved s) };
-
-    // n is at most 256, L from 1 to 16, and at most L tables are saved
-    ghost few: { (s : Self) → (frame s).vars ≤ 256 };
-
-    ghost deep: { (s : Self) → (1 ≤ (frame s).most) × ((frame s).most ≤ 16) };
-
-    ghost within: { (s : Self) → length (saved s) ≤ (frame s).most };
-
     // n, the number of variables
     fn variables(&self) -> usize
         ensures value { result ≡ (frame self.now).vars }
@@ -47,7 +32,7 @@ pub trait Domains {
         ensures value { result ≡ size_of (table self.now x) }
         ensures bound { result ≤ 1024 };
 
-    // The next value of variable x at or above a number, if there is one.
+    // The next value of variable x at or above a number, if there is one. The interface tells plain numbers, so their bounds are a clause.
     fn next(&self, x: usize, from: i32) -> Option<i32>
         ensures value { Next (table self.now x) from result }
         ensures bounds { IfSome result (λ v. (negsuc 511 ≤ℤ v) × (v ≤ℤ pos 511)) };
@@ -57,13 +42,27 @@ pub trait Domains {
         ensures value { Last (table self.now x) upto result }
         ensures bounds { IfSome result (λ v. (negsuc 511 ≤ℤ v) × (v ≤ℤ pos 511)) };
 
-    // Variable x keeps only the values of a row; all else stays.
+    // Variable x keeps only the values of a row; all else stays. That two stores have the same saved tables and frame is said in each
+    // contract, since no law or field of one store can say it.
     fn keep(&mut self, x: usize, row: Row) -> Kept
         ensures after { table self.new ≡ kept x row (table self.old) }
         ensures answer { result ≡ answer_keep (table self.old x) (table self.new x) }
         ensures same_saved { saved self.new ≡ saved self.old }
         ensures same_frame { frame self.new ≡ frame self.old }
         ensures outside { (frame self.old).vars ≤ x → self.new ≡ self.old };
+
+    // What each store proves: nothing but values, and nothing for other variables.
+    ghost shaped: { (s : Self) → Shaped (frame s).vars (table s) };
+
+    // So it is with each saved table.
+    ghost shapes: { (s : Self) → AllShaped (frame s).vars (saved s) };
+
+    // n is at most 256, L from 1 to 16, and at most L tables are saved.
+    ghost few: { (s : Self) → (frame s).vars ≤ 256 };
+
+    ghost deep: { (s : Self) → (1 ≤ (frame s).most) × ((frame s).most ≤ 16) };
+
+    ghost within: { (s : Self) → length (saved s) ≤ (frame s).most };
 }
 
 // A table with a list of saved tables, of which there are at most L.

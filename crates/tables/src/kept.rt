@@ -1,4 +1,4 @@
-// What `keep` did to a domain.
+// What `keep` did to a domain: two answers at once, of which neither goes with a value.
 #[derive(Clone, Copy, PartialEq, Eq, Debug)]
 pub struct Kept {
     // it lost a value

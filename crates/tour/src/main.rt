@@ -8,7 +8,7 @@ use offsets::{Offset, Offsets};
 use rules::{Bank, Joined};
 use session::Session;
 use sessions::{Answer, Call};
-use std::io;
+use std::{fmt, io};
 use tables::{Domains, Levels, rows};
 
 // The cabinet's variables.
@@ -79,62 +79,45 @@ fn run_end<S: Domains>(store: &S, x: usize, lo: i32) -> i32
     ensures run { (u : ℤ) → (lo +ℤ pos 1) ≤ℤ u → u ≤ℤ result → S.Domains.table store.now x u ≡ true }
     ensures end { S.Domains.table store.now x (result +ℤ pos 1) ≡ false }
 {
-    let mut hi = lo;
-    while hi < 511 && store.has(x, hi + 1) {
-        hi += 1;
+    for hi in lo..511 {
+        if !store.has(x, hi + 1) {
+            return hi;
+        }
     }
-    hi
+    lo.max(511)
 }
 
-// Prints the values left of a variable, runs of two or more as lo..hi.
-fn show<S: Domains>(rt: &HostRuntime, store: &S, x: usize) -> io::Result<()> {
-    print!(rt; "x{x}")?;
-    let mut from = -512;
-    for _ in 0..1024 {
-        let Some(lo) = store.next(x, from) else {
-            break;
-        };
-        let hi = run_end(store, x, lo);
-        if lo == hi {
-            print!(rt; " {lo}")?;
-        } else {
-            print!(rt; " {lo}..{hi}")?;
+// The values left of variable x, runs of two or more as lo..hi.
+#[derive(Drop)]
+struct Left<'s, S> {
+    store: &'s S,
+    x: usize,
+}
+
+impl<'s, S: Domains> fmt::Display for Left<'s, S> {
+    fn fmt<W: fmt::Write>(&self, f: &mut fmt::Formatter<W>) -> fmt::Result {
+        write!(f, "x{}", self.x)?;
+        // A store tells its values by `next`.
+        let mut from = -512;
+        while let Some(lo) = self.store.next(self.x, from) {
+            let hi = run_end(self.store, self.x, lo);
+            if lo == hi {
+                write!(f, " {lo}")?;
+            } else {
+                write!(f, " {lo}..{hi}")?;
+            }
+            from = hi + 1;
         }
-        from = hi + 1;
+        Ok(())
     }
-    println!(rt; "")
 }
 
 // Prints every variable.
 fn show_all<S: Domains>(rt: &HostRuntime, store: &S) -> io::Result<()> {
     for x in 0..store.variables() {
-        show(rt, store, x)?;
+        println!(rt; "{}", Left { store, x })?;
     }
     Ok(())
-}
-
-// Prints a call.
-fn show_call(rt: &HostRuntime, call: Call) -> io::Result<()> {
-    match call {
-        Call::Strike { x, v } => print!(rt; "strike x{x} {v}: "),
-        Call::Narrow { x, lo, hi } => print!(rt; "narrow x{x} to {lo}..{hi}: "),
-        Call::Settle => print!(rt; "settle: "),
-        Call::Save => print!(rt; "save: "),
-        Call::Restore => print!(rt; "restore: "),
-    }
-}
-
-// Prints an answer with its counts.
-fn show_answer(rt: &HostRuntime, answer: Answer) -> io::Result<()> {
-    match answer {
-        Answer::Done => println!(rt; "ok"),
-        Answer::Emptied => println!(rt; "failed"),
-        Answer::Settled { runs, removed } => println!(rt;
-            "settled, {runs} runs, {removed} removed"
-        ),
-        Answer::Failed { rule, runs } => println!(rt; "failed at rule {rule}, {runs} runs"),
-        Answer::Refused(fault) => println!(rt; "refused {}", fault.number()),
-    }
 }
 
 // The offer as it stands in the catalogue.
@@ -156,8 +139,7 @@ fn afternoon<S: Levels, B: Bank>(
     for call in calls {
         let mut answers = [Answer::Done];
         session.play(store, bank, &[*call], &mut answers);
-        show_call(rt, *call)?;
-        show_answer(rt, answers[0])?;
+        println!(rt; "{call}: {}", answers[0])?;
         show_all(rt, store)?;
     }
     Ok(())

@@ -10,10 +10,10 @@ fn answer(
     n: usize,
     most: usize,
 ) -> Result<Result<(), StoreFault>, Fail> {
-    if len > words.len() {
+    let Some(words) = words.get(..len) else {
         return Err(Fail::new("too few words"));
-    }
-    Ok(Copying::check(&words[0..len], n, most))
+    };
+    Ok(Copying::check(words, n, most))
 }
 
 #[test]

@@ -4,4 +4,4 @@ use Rattle.sessions.specs.Worlds.{unfit}
 use Rattle.session.proofs.fitting.Given as goal
 
 abbrev pub invariant-loop-rule : goal.invariant-loop-rule
-invariant-loop-rule g l = (rest : Option SessionFault) → unfit l.n 0 (g.B.Bank.rules l.bank) rest ≡ unfit l.n l.rule (drop l.rule (g.B.Bank.rules l.bank)) rest
+invariant-loop-rule g l = (rest : Option SessionFault) → unfit l.n 0 (g.B.Bank.rules l.bank) rest ≡ unfit l.n l.rule-counter (drop l.rule-counter (g.B.Bank.rules l.bank)) rest

@@ -1,9 +1,12 @@
-use Rattle.std.proofs.Common.{sym, ◌∙◌, arith}
-use Rattle.rules.proofs.Voids.{void_at, full_from}
+use Rattle.std.proofs.Common.{eqb, refl, ◌∙◌, arith, rules}
+use Rattle.std.proofs.lemmas.Iterator.{YieldsList-from_range}
+use Rattle.std.proofs.lemmas.Iterator.Search.{any_from_yields_List}
+use Rattle.tables.specs.Tables.{size_of}
+use Rattle.session.proofs.Counting.{any_void}
 use Rattle.session.proofs.has_empty.Goals as goal
 
-pub returns-then-left-eq0 : goal.returns-then-left-eq0
-returns-then-left-eq0 g c = sym (void_at c.args.n (g.S.Domains.table c.args.store.now) c.loop-x.x c.loop-x-test.true (sym c.left.ensures.value ∙ c.if-left-eq0.true))
-
 pub returns : goal.returns
-returns g c = sym (full_from c.args.n (g.S.Domains.table c.args.store.now) (λ y l. c.loop-x.invariant y (let e = c.loop-x-test.false in omega arith)))
+returns g c =
+    let t = g.S.Domains.table c.args.store.now in
+    any_from_yields_List (λ x. eqb (size_of (t x)) 0) _ _ _ c.any.ensures.ran (YieldsList-from_range 0 c.args.n c.args.n refl (omega arith)) (λ x b q k. search rules)
+    ∙ any_void t c.args.n

@@ -1,5 +1,5 @@
 use Rattle.std.proofs.Common.{◌≡◌, length, rules}
-use Rattle.rules.proofs.Members.{first_below}
+use Rattle.rules.proofs.Numbers.{first_below}
 use Rattle.rules.proofs.sets.next.Goals as goal
 
 pub returns : goal.returns

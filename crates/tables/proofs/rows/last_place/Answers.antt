@@ -1,29 +1,30 @@
-use Rattle.std.proofs.Common.{◌≡◌, ℕ, ◌+◌, ◌-◌, ◌*◌, ◌^◌, ◌<◌, ◌≤◌, false, List, get_or, Some, sym, ap, ◌∙◌, subst, ⊎_elim, arith, rules}
-use Rattle.std.proofs.lemmas.Bool.{cases_lt}
-use Rattle.tables.specs.Rows.{bit, at_place, Final}
-use Rattle.tables.proofs.Words.{bit_below}
-use Rattle.tables.proofs.Places.{at_word, at_past}
+use Rattle.std.proofs.Common.{◌≡◌, ℕ, ◌-◌, ◌*◌, ◌<◌, get_or, take, length, Some, sym, ap, subst, ◌∙◌, arith, rules}
+use Rattle.std.specs.Option.{option_map}
+use Rattle.std.proofs.lemmas.List.{length-take-le, get_or-take, length-append}
+use Rattle.std.proofs.lemmas.Option.{IfSome_then}
+use Rattle.tables.specs.Rows.{bit, Final}
+use Rattle.tables.proofs.Finds.{Item, item_from, found, Final-from_Found}
 use Rattle.tables.proofs.rows.last_place.Goals as goal
 
-pub loop-j-init : goal.loop-j-init
-loop-j-init c = (omega arith, omega arith, λ p h l. at_past c.args.row.now p (omega arith))
-
--- the highest place of word j, where the words above have none
-found : (row : List ℕ) (j k end : ℕ) → get_or row j 0 < 2 ^ 64 → Final (bit (get_or row j 0)) (end - 64 * j) (Some k) → ((p : ℕ) → 64 * (j + 1) ≤ p → p < end → at_place row p ≡ false) → Final (at_place row) end (Some (64 * j + k))
-found row j k end b f above =
-    let l : k < 64 = bit_below 64 (get_or row j 0) k b f.1 in (
-      omega (arith, f.0),
-      at_word row j k l ∙ f.1,
-      λ p h e.
-          ⊎_elim
-          (λ low. let s : 64 * j + (p - 64 * j) ≡ p = omega arith in ap (at_place row) (sym s) ∙ at_word row j (p - 64 * j) (omega arith) ∙ f.2 (p - 64 * j) (omega arith) (omega arith))
-          (λ high. above p high e)
-          (cases_lt p (64 * (j + 1))),
-    )
-
-pub returns-in-Some : goal.returns-in-Some
-returns-in-Some c =
-    let e : c.loop-j.j - 1 + 1 ≡ c.loop-j.j = omega arith in
-    found c.args.row.now (c.loop-j.j - 1) c.in-Some.k c.args.end (search rules)
-    (subst (λ n. Final (bit (get_or c.args.row.now (c.loop-j.j - 1) 0)) n (Some c.in-Some.k)) c.saturating_sub.ensures c.in-Some.ensures)
-    (λ p h l. c.loop-j.invariant.2 p (omega arith) l)
+-- The calls of `next` behind those that `find_map` made, back to the slice.
+pub returns : goal.returns
+returns c =
+    let row = c.args.row.now in
+    let count = c.min.result in
+    let run = c.find_map.ensures.runs in
+    let rev = c.rev.ensures.runs run.0 run.0.seen run.1 in
+    let enumerate = c.rev.ensures.runs_back rev.0 rev.0.seen rev.1 in
+    let iter = c.iter.ensures.runs_back enumerate.1.0 enumerate.1.0.seen in
+    let left : c.enumerate.result.iter.rest.now ≡ take count row = ap (λ i. i.rest.now) c.enumerate.ensures.source ∙ c.iter.ensures.rest in
+    let rest : enumerate.1.0.from.rest.now ≡ take count row = ap (λ i. i.rest.now) enumerate.1.1 ∙ left in
+    let full : length c.enumerate.result.iter.rest.now ≡ count = ap length left ∙ length-take-le count row (omega arith) in
+    let long : length enumerate.1.0.from.rest.now ≡ count = ap length rest ∙ length-take-le count row (omega arith) in
+    let numbers = enumerate.0 (λ s x t e. omega (arith, ap length e, length-append {A = ℕ})) in
+    let items : (k : ℕ) → k < run.0.len → Item row (count - 1 - k) (run.0.at k) = λ k h.
+    let i : ℕ = count - 1 - k in
+    let same : length enumerate.1.0.from.rest.now - 1 - i ≡ k = omega (arith, iter.0) in
+    let word = ap (option_map (λ y. y.now)) (sym (enumerate.1.2.0.2 k)) ∙ ap (λ n. option_map (λ y. y.now) (enumerate.1.0.at n)) (sym same) ∙ iter.2 i 0 (omega (arith, iter.0)) (omega arith)
+    ∙ ap Some (ap (λ r. get_or r i 0) rest ∙ get_or-take count row i 0 (omega (arith, iter.0))) in
+    subst (Item row i) (rev.2.0.2 k) (item_from row i (rev.0.at k) (IfSome_then (rev.0.at k) (numbers k) (λ x e. omega arith)) word) in
+    Final-from_Found row c.args.end count run.0.len _ c.find_map.result (search rules) c.min.ensures (omega (arith, iter.0)) (λ w. let whole = iter.1 (enumerate.1.2.1 ∙ rev.2.1 ∙ w) in omega arith)
+    (found row (λ j w. Final (bit w) (c.args.end - 64 * j)) (λ k. count - 1 - k) run.0.len run.0.at items c.find_map.result _ _ _ _ run.2 (λ a r q k. search rules) (λ x k. search rules) (λ b x k. search rules))

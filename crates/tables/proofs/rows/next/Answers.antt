@@ -1,15 +1,16 @@
-use Rattle.std.proofs.Common.{Some, subst}
+use Rattle.std.proofs.Common.{◌≡◌, sym, subst, arith}
+use Rattle.std.specs.Option.{option_map}
+use Rattle.std.proofs.lemmas.Grind.{common_steps}
 use Rattle.std.proofs.lemmas.Int.{to_z-of_z}
+use Rattle.tables.specs.Values.{value_at}
 use Rattle.tables.specs.Rows.{in_row}
-use Rattle.tables.specs.Tables.{Least}
-use Rattle.tables.proofs.Ends.{next_value, next_bounds, value_of}
+use Rattle.tables.specs.Tables.{Next}
+use Rattle.tables.proofs.Ends.{Next-from_First}
 use Rattle.tables.proofs.rows.next.Goals as goal
 
-pub returns-in-Some : goal.returns-in-Some
-returns-in-Some c =
+pub returns-clause-value : goal.returns-clause-value
+returns-clause-value c =
     let fits = c.ranges.from in
-    let found = c.in-Some.ensures in
-    let least =
-    subst (Least (in_row c.args.row.now) c.args.from) (value_of c.in-Some.p found.1)
-    (next_value c.args.row.now c.args.from c.places_below.result c.in-Some.p (simp to_z-of_z at c.places_below.ensures.tells) found) in
-    record { value = least; bounds = next_bounds c.args.row.now c.args.from (Some _) least }
+    let test = simp to_z-of_z at c.places_below.ensures.tells in
+    let e : c.map.result ≡ option_map (λ p. value_at p) c.next_place.result = grind (arith, common_steps) in
+    subst (Next (in_row c.args.row.now) c.args.from) (sym e) (Next-from_First c.args.row.now c.args.from _ _ test c.next_place.ensures)

@@ -1,11 +1,16 @@
-use Rattle.std.proofs.Common.{◌≡◌, ◌/◌, Bool, ◌||◌, length, get_or, arith, rules}
+use Rattle.std.proofs.Common.{◌*◌, ◌/◌, ◌%◌, Bool, ◌||◌, get_or, set, ap, ◌∙◌, arith}
+use Rattle.std.proofs.Math.Bool.{and-true}
 use lib.Bits.{bit_or}
-use Rattle.tables.proofs.Places.{place_below, one_changed, split_or, at_put}
+use Rattle.std.proofs.lemmas.Bool.{lt-ltb}
+use Rattle.std.proofs.lemmas.Nat.{one_shl}
+use Rattle.tables.specs.Rows.{at_place}
+use Rattle.tables.proofs.Places.{at_put}
 use Rattle.tables.proofs.rows.put.Goals as goal
 
-pub returns : goal.returns
-returns c =
-    let l = place_below c.args.v c.requires.value in
-    let is = c.requires.at in
-    let len : length c.args.row ≡ 16 = search rules in
-    one_changed c.args.row c.args.v c.args.p (λ m. bit_or (get_or c.args.row (c.args.p / 64) 0) m) (λ (b d : Bool). b || d) c.requires.value is (λ q. at_put c.args.row c.args.p q (omega arith)) split_or
+pub returns-then-p : goal.returns-then-p
+returns-then-p g c q =
+    let row = c.args.words.now in
+    let p = c.args.p in
+    ap (λ m. at_place (set row (p / 64) (bit_or (get_or row (p / 64) 0) m)) q) (one_shl (p % 64) 64 (omega arith))
+    ∙ at_put row p q (omega arith)
+    ∙ ap (λ (b : Bool). at_place row q || b) (rw (lt-ltb p (64 * g.row.N) (omega arith), and-true))

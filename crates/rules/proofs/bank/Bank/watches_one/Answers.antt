@@ -1,15 +1,14 @@
-use Rattle.std.proofs.Common.{sym, ⊎_elim}
-use Rattle.std.proofs.lemmas.Bool.{cases_lt, and_left}
-use Rattle.rules.specs.Banks.{in_set}
-use Rattle.rules.proofs.Members.{woken_one, woken_none}
+use Rattle.std.proofs.Common.{◌∙◌, rules}
+use Rattle.std.proofs.lemmas.Iterator.Consumers.{YieldsList-from_first}
+use Rattle.std.proofs.lemmas.Iterator.Search.{any_from_yields_List}
+use Rattle.rules.specs.Banks.{called, woken}
+use Rattle.rules.specs.Sets.{members_left}
+use Rattle.rules.proofs.Walks.{any_member}
 use Rattle.rules.proofs.bank.Bank.watches_one.Goals as goal
 
-pub returns-then-watches : goal.returns-then-watches
-returns-then-watches g c =
-    let found = c.in-Some.ensures in
-    sym (woken_one (g.Self.Bank.rules c.args.self.now) (in_set c.args.changed) c.args.rule c.in-Some.x found.1 found.2 (sym c.if-watches.ensures))
-
 pub returns : goal.returns
+unfolding woken
 returns g c =
-    sym (woken_none (g.Self.Bank.rules c.args.self.now) (in_set c.args.changed) c.args.rule
-    (λ x h. ⊎_elim (λ low. c.loop-x.invariant x low) (λ high. and_left _ _ (c.in_default.ensures x high h)) (cases_lt x c.loop-x.from)))
+    let rule = called (g.Self.Bank.rules c.args.self.now) c.args.rule in
+    any_from_yields_List rule.watches _ _ _ c.any.ensures.ran (YieldsList-from_first (λ x. x) members_left _ c.members.ensures) (λ x b q k. search rules)
+    ∙ any_member rule.watches c.args.changed

@@ -1,6 +1,6 @@
 use Rattle.std.proofs.Common.{rules}
 use Rattle.rules.specs.Banks.{in_set}
-use Rattle.rules.proofs.Members.{woken_all}
+use Rattle.rules.proofs.Numbers.{woken_all}
 use Rattle.rules.proofs.bank.Bank.woken.Goals as goal
 
 pub returns : goal.returns

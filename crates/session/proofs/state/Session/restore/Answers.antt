@@ -11,7 +11,7 @@ returns g c =
     let step = restore_step (g.S.Domains.frame s) (g.B.Bank.rules b) _ _ c.try_restore.result c.try_restore.ensures.answer c.try_restore.ensures.after in
     record {
       step = step;
-      promises = step_keeps (g.S.Domains.frame s) (g.B.Bank.rules b) (g.S.Domains.few s) (g.B.Bank.lawful b) Restore (answer_of_plain c.try_restore.result) _ _ step;
+      promises = step_keeps (g.S.Domains.frame s) (g.B.Bank.rules b) (g.met.S.Domains.few s) (g.met.B.Bank.lawful b) Restore (answer_of_plain c.try_restore.result) _ _ step;
       refused = c.try_restore.ensures.refused;
       same_frame = c.try_restore.ensures.same_frame;
     }

@@ -11,7 +11,7 @@ returns g c =
     let step = save_step (g.S.Domains.frame s) (g.B.Bank.rules b) _ _ c.try_save.result c.try_save.ensures.answer c.try_save.ensures.after in
     record {
       step = step;
-      promises = step_keeps (g.S.Domains.frame s) (g.B.Bank.rules b) (g.S.Domains.few s) (g.B.Bank.lawful b) Save (answer_of_plain c.try_save.result) _ _ step;
+      promises = step_keeps (g.S.Domains.frame s) (g.B.Bank.rules b) (g.met.S.Domains.few s) (g.met.B.Bank.lawful b) Save (answer_of_plain c.try_save.result) _ _ step;
       refused = c.try_save.ensures.refused;
       same_frame = c.try_save.ensures.same_frame;
     }

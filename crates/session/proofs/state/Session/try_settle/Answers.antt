@@ -1,6 +1,7 @@
-use Rattle.std.proofs.Common.{◌≡◌, ℕ, ◌≤◌, refl, ap, ◌∙◌, arith}
+use Rattle.std.proofs.Common.{◌≡◌, ℕ, ◌≤◌, true, false, refl, ap, ◌∙◌, arith, rules}
 use Rattle.tables.specs.Stores.{Frame}
 use Rattle.tables.specs.Tables.{Table, Inside}
+use Rattle.sessions.specs.Worlds.{is_failed}
 use Rattle.sessions.specs.Steps.{values}
 use Rattle.sessions.proofs.Settling.{settles_inside}
 use Rattle.session.specs.Meaning.{world}
@@ -15,11 +16,11 @@ less f e t u before after same inside eb ea =
     let m = values_mono f.vars u t inside in
     omega arith
 
-pub returns-in-Failed : goal.returns-in-Failed
-returns-in-Failed g c =
+pub returns-then-eq : goal.returns-then-eq
+returns-then-eq g c =
     let s = c.args.store.now in
     record {
-      step = settle_refused (g.S.Domains.frame s) (g.B.Bank.rules c.args.bank.now) (world c.args.self.now (g.S.Domains.table s) (g.S.Domains.saved s)) _ c.in-Failed.is refl;
+      step = settle_refused (g.S.Domains.frame s) (g.B.Bank.rules c.args.bank.now) (world c.args.self.now (g.S.Domains.table s) (g.S.Domains.saved s)) _ (let is : is_failed c.args.self.now.standing ≡ true = search rules in is) refl;
       refused = (refl, refl);
       same_frame = refl;
     }
@@ -27,24 +28,24 @@ returns-in-Failed g c =
 pub overflow_sub-result : goal.overflow_sub-result
 overflow_sub-result g c = less (g.S.Domains.frame c.args.store.now) (g.S.Domains.frame c.propagate.new.store) (g.S.Domains.table c.args.store.now) (g.S.Domains.table c.propagate.new.store) c.total-before.result c.total.result c.propagate.ensures.same_frame (settles_inside c.propagate.ensures.settles) c.total-before.ensures.value c.total.ensures.value
 
-pub returns-in-Settled : goal.returns-in-Settled
-returns-in-Settled g c =
+pub returns-in-Ok : goal.returns-in-Ok
+returns-in-Ok g c =
     let s = c.args.store.now in
-    let after = c.in-Settled.ensures in
+    let after = c.in-Ok.ensures in
     record {
-      step = settle_settles (g.S.Domains.frame s) (g.B.Bank.rules c.args.bank.now) (world c.args.self.now (g.S.Domains.table s) (g.S.Domains.saved s)) _ c.in-Settled.runs c.total-before.result c.total.result c.in_default.not-Failed after.settles c.total-before.ensures.value (c.total.ensures.value ∙ ap (λ (h : Frame). values h.vars (g.S.Domains.table c.propagate.new.store)) c.propagate.ensures.same_frame)
+      step = settle_settles (g.S.Domains.frame s) (g.B.Bank.rules c.args.bank.now) (world c.args.self.now (g.S.Domains.table s) (g.S.Domains.saved s)) _ c.in-Ok.runs c.total-before.result c.total.result (let is : is_failed c.args.self.now.standing ≡ false = search rules in is) after.settles c.total-before.ensures.value (c.total.ensures.value ∙ ap (λ (h : Frame). values h.vars (g.S.Domains.table c.propagate.new.store)) c.propagate.ensures.same_frame)
           (world_is refl (after.idle refl) c.propagate.ensures.same_saves refl c.propagate.ensures.same_saved);
       refused = tt;
       same_frame = c.propagate.ensures.same_frame;
     }
 
-pub returns-in-Failed-propagate : goal.returns-in-Failed-propagate
-returns-in-Failed-propagate g c =
+pub returns-in-Err : goal.returns-in-Err
+returns-in-Err g c =
     let s = c.args.store.now in
-    let after = c.in-Failed-propagate.ensures in
+    let after = c.in-Err.ensures in
     let failed = c.fail.ensures in
     record {
-      step = settle_breaks (g.S.Domains.frame s) (g.B.Bank.rules c.args.bank.now) (world c.args.self.now (g.S.Domains.table s) (g.S.Domains.saved s)) _ c.in-Failed-propagate.rule c.in-Failed-propagate.runs c.in_default.not-Failed after.settles
+      step = settle_breaks (g.S.Domains.frame s) (g.B.Bank.rules c.args.bank.now) (world c.args.self.now (g.S.Domains.table s) (g.S.Domains.saved s)) _ c.in-Err.field-0.rule c.in-Err.field-0.runs (let is : is_failed c.args.self.now.standing ≡ false = search rules in is) after.settles
           (world_is failed.0 failed.1 (failed.2 ∙ c.propagate.ensures.same_saves) refl c.propagate.ensures.same_saved);
       refused = tt;
       same_frame = c.propagate.ensures.same_frame;
