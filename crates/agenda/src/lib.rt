@@ -1,7 +1,7 @@
 // The rules that wait for a run, first come first, none twice.
 #![tactic(auto)]
 
-ghost use Rattle.std.specs.Prelude.{◌≡◌, ℕ, ◌+◌, ◌%◌, ◌<◌, min, Bool, true, false, not, ◌&&◌, [], ◌∷◌, ◌++◌, MatchOption, ◌==◌};
+ghost use Rattle.std.specs.Prelude.{◌≡◌, ℕ, ◌+◌, ◌%◌, ◌<◌, ◌≤◌, min, Bool, true, false, not, ◌&&◌, [], ◌∷◌, ◌++◌, MatchOption, ◌==◌};
 ghost use Rattle.rules.specs.Banks.{in_set};
 ghost use Rattle.sessions.specs.Agendas.{member, upto, joined};
 ghost use Rattle.agenda.specs.Meaning.{waits};
@@ -79,18 +79,12 @@ impl Agenda {
         }
     }
 
-    // The place behind the last rule that waits.
-    fn end(&self) -> usize
-        ensures { result ≡ (self.now.first + self.now.len) % 256 }
+    // The place that lies k places behind the first rule.
+    fn place(&self, k: usize) -> usize
+        requires { k ≤ 256 }
+        ensures { result ≡ (self.now.first + k) % 256 }
     {
-        (self.first + self.len) % 256
-    }
-
-    // The place behind the first rule that waits.
-    fn second(&self) -> usize
-        ensures { result ≡ (self.now.first + 1) % 256 }
-    {
-        (self.first + 1) % 256
+        (self.first + k) % 256
     }
 
     // Puts a rule that does not wait behind all that do. There is a place for it: at most 255 others wait.
@@ -99,7 +93,7 @@ impl Agenda {
         requires new { member rule (waits self.old) ≡ false }
         ensures { waits self.new ≡ waits self.old ++ rule ∷ [] }
     {
-        let at = self.end();
+        let at = self.place(self.len);
         self.rules[at] = rule as u8;
         self.len += 1;
         sets::insert(&mut self.waiting, rule);
@@ -122,7 +116,7 @@ impl Agenda {
     {
         let rule = self.rules[self.first] as usize;
         let others = self.others(rule);
-        self.first = self.second();
+        self.first = self.place(1);
         self.len -= 1;
         self.waiting = others;
         rule

@@ -6,8 +6,10 @@ ghost use Rattle.agenda.specs.Rings.{queue, is_apart};
 
 use rules::sets::Set;
 
-// The rules stand from place `first` on, and go on at place 0 behind the last place. No queue of the library, since all of them ask for memory.
-#[derive(Clone, Copy)]
+// The rules stand from place `first` on, and go on at place 0 behind the last place. No queue of the library: all of
+// them ask for memory, and a list of fixed capacity is not `Copy`, as a session is, and moves all the others when its first is taken.
+// Not compared: the same rules may wait at other places.
+#[derive(Clone, Copy, Debug)]
 pub struct Agenda {
     pub(crate) rules: [u8; 256],
     pub(crate) first: usize,

@@ -33,10 +33,7 @@ impl<'a> Copying<'a> {
         ensures most { result.most ≡ (if fits n most (length words.old) then most else 1) }
         ensures none { result.depth ≡ 0 }
     {
-        let (n, most) = match Copying::check(words, n, most) {
-            Ok(()) => (n, most),
-            Err(_) => (0, 1),
-        };
+        let (n, most) = Copying::check(words, n, most).map_or((0, 1), |()| (n, most));
         Copying {
             words,
             n,

@@ -1,5 +1,5 @@
 -- What the rules T[y] = z and T[x][y] = z mean.
-use Rattle.std.specs.Prelude.{ℕ, ◌+◌, ◌*◌, Bool, true, false, cond, not, ◌&&◌, ◌||◌, List, [], ◌∷◌, length, ℤ, pos, negsuc, Ok, Err, ◌==◌, int_le, nat_le, nat_lt, slice_index_or}
+use Rattle.std.specs.Prelude.{ℕ, ◌+◌, ◌*◌, Bool, true, false, cond, not, ◌&&◌, ◌||◌, List, [], ◌∷◌, map, length, ℤ, pos, negsuc, Ok, Err, ◌==◌, int_le, nat_le, nat_lt, slice_index_or}
 use Rattle.tables.specs.Values.{is_value, equal_int}
 use Rattle.tables.specs.Tables.{Domain, Table}
 use Rattle.rules.specs.declared.fault.RuleFault.TheVariants.{Variable, Value, Length}
@@ -96,3 +96,7 @@ matrix m = record {
 abbrev pub element : Element → Rule
 element (ByIndex e) = lookup e
 element (ByCell m) = matrix m
+
+-- the rules of a list, in its order
+abbrev pub rules_of : List Element → List Rule
+rules_of es = map element es

@@ -6,5 +6,5 @@ pub mod rule;
 use filters::Listed;
 pub use rule::{Element, Lookup, Matrix};
 
-// A bank of these rules, in a list that the caller lends.
+// A list of these rules that the caller lends, which is a bank once an element is a kind of rule that can be run.
 pub type Elements<'a> = Listed<'a, Element<'a>>;

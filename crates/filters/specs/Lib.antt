@@ -1,4 +1,5 @@
 pub mod Ends
 pub mod Running
 pub mod Listed
+pub mod Visits
 pub mod Facts

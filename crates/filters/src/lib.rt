@@ -1,4 +1,5 @@
-// What the filters of every bank are made of: the ends of a domain, and a run that narrows one domain after another.
+// What every bank is made of: a kind of rule, a list of rules of one kind, the ends and the values of a domain, and a run that narrows one
+// domain after another.
 #![tactic(auto)]
 
 ghost use Rattle.std.specs.Prelude.{◌≡◌, ℕ, true, not, ◌&&◌, ◌||◌, pos, negsuc, ◌≤ℤ◌, IfSome, MatchOption, is_ok, ◌==◌, nat_lt};
@@ -11,6 +12,7 @@ pub mod ends;
 pub mod kind;
 pub mod list;
 pub mod listed;
+pub mod visits;
 
 pub use ends::Ends;
 pub use kind::Kind;
@@ -18,6 +20,7 @@ pub use listed::Listed;
 use rules::sets::Set;
 use rules::{Failed, sets};
 use tables::{Domains, Row};
+pub use visits::{Walk, values};
 
 // The least and the greatest value of variable x, if it has one.
 pub fn ends_of<S: Domains>(store: &S, x: usize) -> Option<Ends>

@@ -48,6 +48,7 @@ impl<'a, T: Kind> Bank for Listed<'a, T> {
         self.find(rule).is_some_and(|r| r.watches(x))
     }
 
+    // By a match: with `map_or` the closure would hold the store, and what it leaves of it would not be known.
     fn run<S: Domains>(&self, rule: usize, store: &mut S) -> Ran {
         match self.find(rule) {
             Some(r) => r.run(store),

@@ -1,5 +1,5 @@
 -- One walk over the values of y, which collects those with a partner in x, and the partners.
-use Rattle.std.proofs.Common.{◌≡◌, ℕ, ◌+◌, ◌-◌, ◌<◌, Bool, true, false, ◌&&◌, ◌||◌, List, ℤ, pos, negsuc, ◌+ℤ◌, ◌-ℤ◌, ◌≤ℤ◌, sym, refl, ap, ◌∙◌, subst, ap₂, ⊎_elim, arith, w32, to_z, of_z}
+use Rattle.std.proofs.Common.{◌≡◌, ℕ, Bool, true, false, ◌&&◌, ◌||◌, List, ℤ, pos, negsuc, ◌+ℤ◌, ◌-ℤ◌, ◌≤ℤ◌, sym, ap, ◌∙◌, subst, ap₂, ⊎_elim, arith, w32, to_z, of_z}
 use Rattle.std.proofs.Math.Bool.{or-false, and_comm}
 use lib.Signed.{lt_z}
 use Rattle.std.proofs.lemmas.Int.{ints, by_lt_z}
@@ -9,18 +9,6 @@ use Rattle.tables.specs.Rows.{in_row}
 use Rattle.tables.specs.Tables.{Domain, Table, Shaped, Least}
 use Rattle.tables.proofs.Places.{equal_true, value_low, value_high}
 use Rattle.offsets.specs.Offsets.{in_reach}
-
--- how far a walk that has come to a number still has to go at the most
-abbrev pub ahead : ℤ → ℕ
-ahead (pos n) = 512 - n
-ahead (negsuc n) = 513 + n
-
-ahead_is : (z : ℤ) → z ≤ℤ pos 512 → pos (ahead z) ≡ pos 512 -ℤ z
-ahead_is (pos n) h = omega (arith, ints)
-ahead_is (negsuc n) h = omega (arith, ints)
-
-pub ahead_less : (from w : ℤ) → from ≤ℤ w → w ≤ℤ pos 511 → ahead (w +ℤ pos 1) < ahead from
-ahead_less from w a b = let here = ahead_is from (omega (arith, ints)) in let there = ahead_is (w +ℤ pos 1) (omega (arith, ints)) in omega (arith, ints)
 
 -- what a walk has met below a number
 abbrev pub met : Domain → ℤ → ℤ → Bool
@@ -114,19 +102,12 @@ module _ (n : ℕ) (t : Table) (shaped : Shaped n t) (x y : ℕ) (c : ℤ) where
         ap₂ (λ a b. held (a +ℤ b)) w_same c_same
         ∙ (let l = low w next.member in let h = high w next.member in let cl = low_reach c reach in let ch = high_reach c reach in held_same (w +ℤ c) (omega (arith, ints)) (omega (arith, ints)))
 
-    next_same : held (held w +ℤ pos 1) ≡ w +ℤ pos 1
-    next_same = ap (λ a. held (a +ℤ pos 1)) w_same ∙ (let l = low w next.member in let h = high w next.member in held_same (w +ℤ pos 1) (omega (arith, ints)) (omega (arith, ints)))
-
     end : (w +ℤ pos 1) ≤ℤ pos 512
     end = let h = high w next.member in omega (arith, ints)
 
-    -- the walk comes nearer to its end
-    pub turn_less : ahead (held (held w +ℤ pos 1)) < ahead from
-    turn_less = subst (λ f. ahead f < ahead from) (sym next_same) (ahead_less from w next.reached (high w next.member))
-
     -- w has a partner
-    pub turn_hit : t x (held (held w +ℤ held c)) ≡ true → (new-x new-y : List ℕ) → ((v : ℤ) → in_row new-x v ≡ (in_row rx v || (is_value (held (held w +ℤ held c)) && equal_int v (held (held w +ℤ held c))))) → ((v : ℤ) → in_row new-y v ≡ (in_row ry v || (is_value (held w) && equal_int v (held w)))) → Walked t x y c (held (held w +ℤ pos 1)) new-x new-y
-    turn_hit has new-x new-y ex ey = subst (λ f. Walked t x y c f new-x new-y) (sym next_same) (end, at_x, at_y)
+    pub turn_hit : t x (held (held w +ℤ held c)) ≡ true → (new-x new-y : List ℕ) → ((v : ℤ) → in_row new-x v ≡ (in_row rx v || (is_value (held (held w +ℤ held c)) && equal_int v (held (held w +ℤ held c))))) → ((v : ℤ) → in_row new-y v ≡ (in_row ry v || (is_value (held w) && equal_int v (held w)))) → Walked t x y c (w +ℤ pos 1) new-x new-y
+    turn_hit has new-x new-y ex ey = (end, at_x, at_y)
       where
         there : t x (w +ℤ c) ≡ true
         there = subst (λ z. t x z ≡ true) sum_same has
@@ -149,8 +130,8 @@ module _ (n : ℕ) (t : Table) (shaped : Shaped n t) (x y : ℕ) (c : ℤ) where
             ∙ sym (step v)
 
     -- w has none
-    pub turn_miss : t x (held (held w +ℤ held c)) ≡ false → (new-x new-y : List ℕ) → new-x ≡ rx → new-y ≡ ry → Walked t x y c (held (held w +ℤ pos 1)) new-x new-y
-    turn_miss has new-x new-y ex ey = subst (λ f. Walked t x y c f new-x new-y) (sym next_same) (end, (λ v. ap (λ r. in_row r v) ex ∙ inv.1 v ∙ same (v -ℤ c)), (λ v. ap (λ r. in_row r v) ey ∙ inv.2 v ∙ same v))
+    pub turn_miss : t x (held (held w +ℤ held c)) ≡ false → (new-x new-y : List ℕ) → new-x ≡ rx → new-y ≡ ry → Walked t x y c (w +ℤ pos 1) new-x new-y
+    turn_miss has new-x new-y ex ey = (end, (λ v. ap (λ r. in_row r v) ex ∙ inv.1 v ∙ same (v -ℤ c)), (λ v. ap (λ r. in_row r v) ey ∙ inv.2 v ∙ same v))
       where
         none : (u : ℤ) → (pairs t x y c w && equal_int u w) ≡ false
         none u = and_left (pairs t x y c w) _ (and_right (t y w) _ (subst (λ z. t x z ≡ false) sum_same has))

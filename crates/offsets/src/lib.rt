@@ -19,7 +19,7 @@ use tables::{Domains, rows};
 // A bank of these rules, in a list that the caller lends.
 pub type Offsets<'a> = Listed<'a, Offset>;
 
-// The values of x and of y that have a partner in the other one, by one walk over those of y. Every filter walks a domain by `next`.
+// The values of x and of y that have a partner in the other one, by one walk over those of y.
 fn matched<S: Domains>(store: &S, o: Offset) -> Both
     requires { in_reach o.c ≡ true }
     ensures x { (v : ℤ) → in_row result.x v ≡ (S.Domains.table store.now o.x v && S.Domains.table store.now o.y (v -ℤ o.c)) }
@@ -27,14 +27,12 @@ fn matched<S: Domains>(store: &S, o: Offset) -> Both
 {
     let mut x = rows::none();
     let mut y = rows::none();
-    let mut from = -512;
-    while let Some(w) = store.next(o.y, from) {
+    for w in filters::values(store, o.y) {
         let v = w + o.c;
         if store.has(o.x, v) {
             rows::insert(&mut x, v);
             rows::insert(&mut y, w);
         }
-        from = w + 1;
     }
     Both { x, y }
 }

@@ -1,4 +1,3 @@
 pub mod Numbers
 pub mod Walks
 pub mod Voids
-pub mod Joining

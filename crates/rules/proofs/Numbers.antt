@@ -1,9 +1,9 @@
 -- Sets of numbers below 256 by their words.
-use Rattle.std.proofs.Common.{◌≡◌, ℕ, zero, suc, ◌-◌, ◌/◌, ◌%◌, ◌^◌, ◌<◌, ◌≤◌, min, Bool, true, false, cond, not, ◌&&◌, ◌||◌, ltb, leb, List, [], ◌∷◌, length, get_or, set, Some, None, Option, sym, refl, ap, ◌∙◌, subst, ap₂, ⊎_elim, arith}
+use Rattle.std.proofs.Common.{◌≡◌, ℕ, zero, suc, ◌-◌, ◌/◌, ◌%◌, ◌^◌, ◌<◌, ◌≤◌, min, Bool, true, false, cond, not, ◌&&◌, ◌||◌, ltb, leb, List, [], ◌∷◌, length, get_or, set, sym, refl, ap, ◌∙◌, subst, ap₂, ⊎_elim, arith}
 use lib.Bits.{bit_and}
 use Rattle.std.proofs.lemmas.List.{get_or_past}
-use Rattle.std.proofs.lemmas.Bool.{cases_lt, both_ways, leb-true, lt-ltb, le-ltb, and_left, and_right, or_right}
-use Rattle.tables.specs.Rows.{bit, First}
+use Rattle.std.proofs.lemmas.Bool.{cases_lt, leb-true, lt-ltb, le-ltb, and_left, and_right, or_right}
+use Rattle.tables.specs.Rows.{bit}
 use Rattle.tables.proofs.Words.{and_bits, bit_not, bit_zero}
 use Rattle.tables.proofs.Places.{at_past}
 use Rattle.rules.specs.Rules.{Rule}
@@ -22,11 +22,6 @@ nothing_in k = words (k / 64) (k % 64)
     words (suc (suc zero)) b = bit_zero b
     words (suc (suc (suc zero))) b = bit_zero b
     words (suc (suc (suc (suc j)))) b = bit_zero b
-
--- a member lies below 256
-pub first_below : (s : List ℕ) → length s ≡ 4 → (from : ℕ) (r : Option ℕ) → First (in_set s) from 1024 r → First (in_set s) from 256 r
-first_below s l from None f = λ k h b. f k h (omega arith)
-first_below s l from (Some b) f = (f.0, ⊎_elim (λ low. low) (λ high. absurd (both_ways (in_set s b) (set_past s l b high) f.2)) (cases_lt b 256), f.2, f.3)
 
 -- one word without another's bits
 pub word_minus : (a b k : ℕ) → k < 64 → b < 2 ^ 64 → bit (bit_and a (2 ^ 64 - 1 - b)) k ≡ (bit a k && not (bit b k))

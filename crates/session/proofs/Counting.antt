@@ -1,5 +1,5 @@
 -- Counting over the numbers below a bound, as a chain over a range does it.
-use Rattle.std.proofs.Common.{◌≡◌, ℕ, zero, suc, ◌+◌, Bool, true, false, ◌||◌, eqb, map, sym, refl, ap, ◌∙◌, add-one, arith}
+use Rattle.std.proofs.Common.{◌≡◌, ℕ, zero, suc, ◌+◌, Bool, false, ◌||◌, eqb, map, sym, refl, ap, ◌∙◌, add-one, arith}
 use Rattle.std.proofs.Math.Bool.{or_comm, or_assoc}
 use Rattle.std.specs.List.{list_any, range_with_len, sum_by}
 use Rattle.std.proofs.lemmas.List.FromFn.{sum_by-map-range_with_len_more}

@@ -1,4 +1,3 @@
-pub mod Sizes
 pub mod Counting
 pub mod Handing
 pub mod Promised

@@ -1,5 +1,5 @@
 -- From what the code does to the steps of a session.
-use Rattle.std.proofs.Common.{◌≡◌, ℕ, ◌-◌, Bool, true, false, cond, not, ◌&&◌, ◌||◌, eqb, ltb, List, ℤ, is_ok, IfErr, MatchResult, IfSome, is_some, Some, None, Ok, Err, Option, Result, sym, refl, ap, ◌∙◌, subst, ap₂, ⊎_elim}
+use Rattle.std.proofs.Common.{◌≡◌, ℕ, ◌-◌, Bool, true, false, cond, not, ◌&&◌, ◌||◌, eqb, ltb, List, ℤ, is_ok, IfSome, is_some, Some, None, Ok, Err, Option, Result, sym, refl, ap, ◌∙◌, subst, ap₂, ⊎_elim}
 use mathlib.Core.Path.{fun_ext}
 use Rattle.std.specs.Option.{ok_or}
 use lib.Signed.{le_z}
@@ -12,16 +12,12 @@ use Rattle.rules.specs.Rules.{Rule}
 use Rattle.sessions.specs.declared.standing.Standing.TheVariants as standing
 use Rattle.sessions.specs.declared.call.Call.{Call}
 use Rattle.sessions.specs.declared.call.Call.TheVariants.{Strike, Narrow, Settle, Save, Restore}
-use Rattle.sessions.specs.declared.answer.Answer.{Answer}
-use Rattle.sessions.specs.declared.answer.Answer.TheVariants as answer
 use Rattle.sessions.specs.declared.fault.SessionFault.{SessionFault}
 use Rattle.sessions.specs.declared.fault.SessionFault.TheVariants as fault
 use Rattle.sessions.specs.Worlds.{World, is_failed, when, refusal, ordered}
 use Rattle.sessions.specs.Steps.{values, woke, settled, failed, Settles, broken_by, settled_by, saved_by, restored_by, refused, stirs, empties, settles, breaks, saves, restores}
-use Rattle.sessions.specs.Histories.{granted}
 use Rattle.session.specs.declared.outcome.Ordered.{Ordered}
 use Rattle.session.specs.declared.outcome.Ordered.TheVariants as outcome
-use Rattle.session.specs.declared.outcome.Propagated.{Propagated}
 use Rattle.session.specs.declared.outcome.Propagated.TheVariants as propagated
 use Rattle.session.specs.Answers.{answer_of_order, answer_of_settle, answer_of_plain, verdict}
 use Rattle.session.specs.Meaning.{Steps, IsOrder, after_order}
@@ -145,28 +141,3 @@ module _ (f : Frame) (rules : List Rule) (w w' : World) where
   pub restore_step : (r : Result (Unit {0}) SessionFault) → r ≡ verdict (refusal f.vars f.most w Restore) → w' ≡ cond (is_ok r) (restored_by w) w → Steps f rules Restore (answer_of_plain r) w w'
   restore_step (Ok u) e is = restores (passes _ u e) is
   restore_step (Err g) e is = refused (refuses _ g e) is
-
--- ---- answers
-
--- a step of a call and an answer that are the same
-pub answered : (f : Frame) (rules : List Rule) (w w' : World) {c d : Call} {a b : Answer} → c ≡ d → a ≡ b → Steps f rules d b w w' → Steps f rules c a w w'
-answered f rules w w' {c} {d} {a} {b} e g step = subst (λ (x : Call). Steps f rules x a w w') (sym e) (subst (λ (y : Answer). Steps f rules d y w w') (sym g) step)
-
--- an order, a settle, a save or a restore that was granted
-pub order_fine : (x : Ordered) → granted (answer_of_order (Ok x)) ≡ true
-order_fine outcome.Done = refl
-order_fine outcome.Emptied = refl
-
-pub settle_fine : (x : Propagated) → granted (answer_of_settle (Ok x)) ≡ true
-settle_fine (propagated.Settled k m) = refl
-settle_fine (propagated.Failed i k) = refl
-
--- what was told of a result
-module _ {T : Type 0} (of : Result T SessionFault → Answer) (fine : (x : T) → granted (of (Ok x)) ≡ true) (not_fine : (e : SessionFault) → of (Err e) ≡ answer.Refused e) where
-  pub told_is : (r : Result T SessionFault) (a : Answer) → MatchResult r (λ x. a ≡ of (Ok x)) (λ e. a ≡ answer.Refused e) → a ≡ of r
-  told_is (Ok x) a e = e
-  told_is (Err f) a e = e ∙ sym (not_fine f)
-
-  pub told_granted : (P : Type 0) (r : Result T SessionFault) (a : Answer) → a ≡ of r → IfErr r (λ _. P) → granted a ≡ false → P
-  told_granted P (Ok x) a e p g = absurd (both_ways (granted a) g (ap granted e ∙ fine x))
-  told_granted P (Err f) a e p g = p

@@ -34,33 +34,18 @@ use sessions::{Answer, Call, SessionFault, Standing};
 pub use state::Session;
 use tables::{Domains, Levels, Row, StoreFault, rows};
 
-// How many values variable x has left.
-fn left<S: Domains>(store: &S, x: usize) -> usize
-    ensures value { result ≡ size_of (S.Domains.table store.now x) }
-    ensures bound { result ≤ 1024 }
-{
-    store.size(x)
-}
-
 // Whether one of the first n variables has no value.
 fn has_empty<S: Domains>(store: &S, n: usize) -> bool
     ensures { result ≡ is_void n (S.Domains.table store.now) }
 {
-    (0..n).any(|x| left(store, x) == 0)
-}
-
-// Whether a number is a value.
-fn is_value(v: i32) -> bool
-    ensures { result ≡ is_value v }
-{
-    v >= -512 && v <= 511
+    (0..n).any(|x| store.size(x) == 0)
 }
 
 // Whether two numbers are values, and the first is not the greater.
 fn is_range(lo: i32, hi: i32) -> bool
     ensures { result ≡ (is_value lo && (is_value hi && int_le lo hi)) }
 {
-    is_value(lo) && is_value(hi) && lo <= hi
+    rows::is_value(lo) && rows::is_value(hi) && lo <= hi
 }
 
 // What an order to strike v keeps, if v is a value.
@@ -68,7 +53,7 @@ fn all_but(v: i32) -> Option<Row>
     ensures there { is_some result ≡ is_value v }
     ensures row { IfSome result (λ r. (u : ℤ) → in_row r u ≡ (is_value u && not (equal_int u v))) }
 {
-    is_value(v).then_some(rows::without(rows::all(), v))
+    rows::is_value(v).then_some(rows::without(rows::all(), v))
 }
 
 // What an order to narrow to lo and hi keeps, if they are a range.
@@ -83,10 +68,7 @@ fn between(lo: i32, hi: i32) -> Option<Row>
 fn told<T: Into<Answer>>(r: Result<T, SessionFault>) -> Answer
     ensures { MatchResult r (λ x. T.Into.converts x result) (λ e. result ≡ Refused e) }
 {
-    match r {
-        Ok(x) => x.into(),
-        Err(fault) => Answer::Refused(fault),
-    }
+    r.map_or_else(Answer::Refused, |x| x.into())
 }
 
 // How many values the variables of a store have.
@@ -94,7 +76,7 @@ fn total<S: Domains>(store: &S) -> usize
     ensures value { result ≡ values (S.Domains.frame store.now).vars (S.Domains.table store.now) }
     ensures bound { result ≤ 262144 }
 {
-    (0..store.variables()).map(|x| left(store, x)).sum()
+    (0..store.variables()).map(|x| store.size(x)).sum()
 }
 
 // Whether the rules of a bank fit n variables, else the lowest that does not.
@@ -134,10 +116,10 @@ impl Session {
     fn opened<S: Levels, B: Bank>(store: &S, bank: &B) -> Session
         ensures { world result (S.Domains.table store.now) (S.Domains.saved store.now) ≡ beginning (refused_start (S.Domains.frame store.now).vars (B.Bank.rules bank.now) (S.Domains.table store.now)) (B.Bank.rules bank.now) (S.Domains.table store.now) (S.Domains.saved store.now) }
     {
-        let (agenda, standing) = match Session::check(store, bank) {
-            Ok(()) => (Agenda::all(bank.rules()), Standing::Stirred),
-            Err(_) => (Agenda::new(), Standing::Failed),
-        };
+        let (agenda, standing) = Session::check(store, bank).map_or(
+            (Agenda::new(), Standing::Failed),
+            |()| { (Agenda::all(bank.rules()), Standing::Stirred) },
+        );
         Session {
             agenda,
             standing,
@@ -414,7 +396,8 @@ impl Session {
     }
 
     // Plays a list of calls and writes the answers, as many as both lists have room for; says how many. The answers are written by their
-    // place, since of a slice that a `zip` of `iter_mut` wrote nothing is known.
+    // place, since of a slice that a `zip` of `iter_mut` wrote nothing is known. Two lists, as the session asks for no memory and the calls are
+    // read only.
     pub fn play<S: Levels, B: Bank>(
         &mut self,
         store: &mut S,

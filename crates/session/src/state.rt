@@ -1,10 +1,10 @@
-// What a session remembers between its calls; the store and the bank are given to each of them.
+// What a session remembers between its calls; the store and the bank are given to each of them. Not compared, as agendas are not.
 ghost use Rattle.std.specs.Prelude.{◌≤◌};
 
 use agenda::Agenda;
 use sessions::Standing;
 
-#[derive(Clone, Copy)]
+#[derive(Clone, Copy, Debug)]
 pub struct Session {
     // the rules that wait
     pub(crate) agenda: Agenda,

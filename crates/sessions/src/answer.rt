@@ -1,4 +1,4 @@
-// What a session answers.
+// What a session answers: one type for all calls, since answers are listed, compared and printed with the refusals among them.
 use crate::fault::SessionFault;
 
 #[derive(Clone, Copy, PartialEq, Eq, Debug)]

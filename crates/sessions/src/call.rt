@@ -1,4 +1,4 @@
-// What is asked of a session.
+// What is asked of a session. The two numbers of a narrow are what a caller says, and need be no ends of any domain.
 #[derive(Clone, Copy, PartialEq, Eq, Debug)]
 pub enum Call {
     // an order: variable x loses the value v

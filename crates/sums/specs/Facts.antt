@@ -1,5 +1,5 @@
 -- The laws of sums, which ghost members name.
-use Rattle.std.specs.Prelude.{◌≡◌, ℕ, ◌≤◌, Bool, true, false, cond, not, ◌&&◌, ◌||◌, List, [], ◌∷◌, map, length, ℤ, pos, ◌+ℤ◌, ◌-ℤ◌, neg_ℤ, ◌≤ℤ◌, is_ok, Ok, Err, Result, ◌==◌, int_le, nat_le, refl}
+use Rattle.std.specs.Prelude.{◌≡◌, ℕ, ◌≤◌, Bool, true, false, cond, not, ◌&&◌, ◌||◌, List, [], ◌∷◌, length, ℤ, pos, ◌+ℤ◌, ◌-ℤ◌, neg_ℤ, ◌≤ℤ◌, is_ok, Ok, Err, Result, ◌==◌, int_le, nat_le, refl}
 use Rattle.std.proofs.Math.Bool.{and-true}
 use Rattle.std.proofs.Common.{sym, ap, ap₂, subst, ◌∙◌, inl, inr, ⊎_elim, arith}
 use Rattle.std.proofs.Math.Path.{fun_ext}
@@ -18,7 +18,7 @@ use Rattle.filters.specs.Facts.{listed_lawful}
 use Rattle.sums.specs.declared.rule.Sign.{Sign}
 use Rattle.sums.specs.declared.rule.Sum.{Sum}
 use Rattle.sums.specs.declared.rule.Term.{Term}
-use Rattle.sums.specs.Sums.{signed, lowest, highest, lo, hi, total, Window, windows, passes, balanced, on_any, are_below, in_reach, worth, balance, sum}
+use Rattle.sums.specs.Sums.{signed, lowest, highest, lo, hi, total, Window, windows, passes, balanced, on_any, are_below, in_reach, worth, balance, sum, rules_of}
 use Rattle.sums.specs.Bounds.{added, head_below, tail_below, lo_mono, hi_mono, los_mono, his_mono, lo_le, hi_ge, los_le, his_ge, los_one, his_one}
 
 -- ---- windows
@@ -151,5 +151,5 @@ pub sum_lawful : (s : Sum) (n : ℕ) → (sum s).fit n ≡ Ok tt → Lawful n (s
 sum_lawful s n e = let m = fit_means s.c s.terms.now n e in balance_lawful n s.c s.terms.now m.2 m.0
 
 -- each rule of a list that fits keeps the laws
-pub sums_lawful : (ss : List Sum) → Lawfully (map sum ss)
+pub sums_lawful : (ss : List Sum) → Lawfully (rules_of ss)
 sums_lawful = listed_lawful sum sum_lawful

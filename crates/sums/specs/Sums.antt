@@ -1,5 +1,5 @@
 -- What the rule s₁x₁ + … + s_k x_k + c = 0 means, where each s is +1 or -1.
-use Rattle.std.specs.Prelude.{ℕ, Bool, true, false, cond, not, ◌&&◌, ◌||◌, List, [], ◌∷◌, length, ℤ, pos, negsuc, ◌+ℤ◌, ◌-ℤ◌, neg_ℤ, Ok, Err, ◌==◌, int_le, nat_le, nat_lt}
+use Rattle.std.specs.Prelude.{ℕ, Bool, true, false, cond, not, ◌&&◌, ◌||◌, List, [], ◌∷◌, map, length, ℤ, pos, negsuc, ◌+ℤ◌, ◌-ℤ◌, neg_ℤ, Ok, Err, ◌==◌, int_le, nat_le, nat_lt}
 use Rattle.tables.specs.Values.{equal_int}
 use Rattle.tables.specs.Tables.{Domain, Table}
 use Rattle.rules.specs.declared.fault.RuleFault.TheVariants.{Variable, Value, Length}
@@ -91,3 +91,7 @@ balance c ms = record {
 
 abbrev pub sum : Sum → Rule
 sum s = balance s.c s.terms.now
+
+-- the rules of a list, in its order
+abbrev pub rules_of : List Sum → List Rule
+rules_of ss = map sum ss

@@ -6,5 +6,5 @@ pub mod rule;
 use filters::Listed;
 pub use rule::{Sign, Sum, Term};
 
-// A bank of these rules, in a list that the caller lends.
+// A list of these rules that the caller lends, which is a bank once a sum is a kind of rule that can be run.
 pub type Sums<'a> = Listed<'a, Sum<'a>>;

@@ -1,5 +1,5 @@
 -- From the first and the last place of a row to the next and the last value of its domain.
-use Rattle.std.proofs.Common.{◌≡◌, ℕ, ◌<◌, ◌≤◌, true, false, ltb, List, ℤ, pos, ◌+ℤ◌, ◌≤ℤ◌, Some, None, Option, ◌∙◌, arith, w32, to_z, of_z}
+use Rattle.std.proofs.Common.{◌≡◌, ℕ, ◌<◌, ◌≤◌, true, ltb, List, ℤ, pos, ◌+ℤ◌, Some, None, Option, ◌∙◌, arith, w32, to_z, of_z}
 use lib.Signed.{le_z, lt_z}
 use mir.Val.{SFits}
 use Rattle.std.specs.Int.{saturate_signed}

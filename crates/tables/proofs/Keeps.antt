@@ -1,8 +1,7 @@
 -- What a keep does to a table.
-use Rattle.std.proofs.Common.{◌≡◌, ℕ, ◌≤◌, Bool, false, not, ◌&&◌, ◌||◌, eqb, ltb, List, ℤ, sym, ap, ◌∙◌, ap₂, ⊎_elim, arith}
+use Rattle.std.proofs.Common.{◌≡◌, ℕ, ◌≤◌, Bool, false, not, ◌&&◌, ◌||◌, eqb, ltb, List, ℤ, ap, ◌∙◌, ap₂, ⊎_elim, arith}
 use Rattle.std.proofs.Math.Bool.{and-true}
-use mathlib.Core.Path.{fun_ext}
-use Rattle.std.proofs.lemmas.Bool.{cases_eq, cases_Bool, eq-eqb, ne_eqb}
+use Rattle.std.proofs.lemmas.Bool.{cases_Bool, eq-eqb, ne_eqb}
 use Rattle.tables.specs.Rows.{in_row}
 use Rattle.tables.specs.Tables.{Domain, Table, size_of, Shaped, kept}
 use Rattle.tables.specs.declared.kept.Kept.{Kept}

@@ -1,5 +1,5 @@
 -- Truth values: what follows from which, orders of numbers as answers, and what is asked only where something holds.
-use Rattle.std.proofs.Common.{◌≡◌, Bool, true, false, not, ◌&&◌, ◌||◌, ℤ, ◌≤ℤ◌, sym, refl, subst, arith}
+use Rattle.std.proofs.Common.{◌≡◌, Bool, true, false, not, ◌||◌, ℤ, ◌≤ℤ◌, sym, refl, subst, arith}
 use lib.Signed.{le_z}
 use Rattle.std.proofs.lemmas.Int.{ints}
 

@@ -27,7 +27,7 @@ pub trait Domains {
     fn has(&self, x: usize, v: i32) -> bool
         ensures { result ≡ table self.now x v };
 
-    // How many values variable x has.
+    // How many values variable x has; the bound stands beside it for callers that add sizes up.
     fn size(&self, x: usize) -> usize
         ensures value { result ≡ size_of (table self.now x) }
         ensures bound { result ≤ 1024 };

@@ -7,11 +7,18 @@ ghost use Rattle.tables.specs.Tables.{size_of, Next, Last};
 // A domain by its bits: value v is bit (v + 512) % 64 of word (v + 512) / 64.
 pub type Row = [u64; 16];
 
+// Whether a number is a value.
+pub fn is_value(v: i32) -> bool
+    ensures { result ≡ is_value v }
+{
+    (-512..=511).contains(&v)
+}
+
 // The place of a value, or nothing for a number that is none.
 fn place_of(v: i32) -> Option<usize>
     ensures { MatchOption result (is_value v ≡ false) (λ p. (is_value v ≡ true) × (p ≡ place v)) }
 {
-    (-512..=511).contains(&v).then(|| (v + 512) as usize)
+    is_value(v).then(|| (v + 512) as usize)
 }
 
 // Whether the bit of a place is set.

@@ -2,6 +2,8 @@
 #![tactic(auto)]
 
 ghost use Rattle.std.specs.Prelude.{◌≡◌, true, false, ℤ, pos, ◌+ℤ◌, ◌≤ℤ◌};
+ghost use Rattle.std.specs.Iterator.{at_most};
+ghost use Rattle.filters.specs.Visits.{ahead};
 
 use copying::Copying;
 use offsets::{Offset, Offsets};
@@ -87,6 +89,27 @@ fn run_end<S: Domains>(store: &S, x: usize, lo: i32) -> i32
     lo.max(511)
 }
 
+// The runs of values of variable x that are still to come, each by its ends.
+#[derive(Drop)]
+struct Runs<'s, S> {
+    store: &'s S,
+    x: usize,
+    from: i32,
+}
+
+impl<'s, S: Domains> Iterator for Runs<'s, S> {
+    type Item = (i32, i32);
+
+    ghost remaining = { λ s. at_most (ahead s.from) };
+
+    fn next(&mut self) -> Option<(i32, i32)> {
+        let lo = self.store.next(self.x, self.from)?;
+        let hi = run_end(self.store, self.x, lo);
+        self.from = hi + 1;
+        Some((lo, hi))
+    }
+}
+
 // The values left of variable x, runs of two or more as lo..hi.
 #[derive(Drop)]
 struct Left<'s, S> {
@@ -97,16 +120,17 @@ struct Left<'s, S> {
 impl<'s, S: Domains> fmt::Display for Left<'s, S> {
     fn fmt<W: fmt::Write>(&self, f: &mut fmt::Formatter<W>) -> fmt::Result {
         write!(f, "x{}", self.x)?;
-        // A store tells its values by `next`.
-        let mut from = -512;
-        while let Some(lo) = self.store.next(self.x, from) {
-            let hi = run_end(self.store, self.x, lo);
+        let runs = Runs {
+            store: self.store,
+            x: self.x,
+            from: -512,
+        };
+        for (lo, hi) in runs {
             if lo == hi {
                 write!(f, " {lo}")?;
             } else {
                 write!(f, " {lo}..{hi}")?;
             }
-            from = hi + 1;
         }
         Ok(())
     }

@@ -3,7 +3,7 @@ use Rattle.std.proofs.lemmas.Int.{ints}
 use Rattle.tables.specs.Tables.{Domain, size_of}
 use Rattle.filters.specs.Ends.{least, greatest}
 use Rattle.filters.specs.declared.ends.Ends.{Ends}
-use Rattle.tables.proofs.Places.{value_low, value_high, value_from}
+use Rattle.tables.proofs.Places.{value_low, value_from}
 use Rattle.tables.proofs.Counts.{size_none}
 use Rattle.filters.proofs.Extremes.{least_is, greatest_is}
 use Rattle.filters.proofs.ends_of.Goals as goal
@@ -21,9 +21,6 @@ none d r is z = subst (λ (r : Option Ends). MatchOption r (size_of d ≡ 0) (λ
 
 pub returns-in_err-lo-clause-value : goal.returns-in_err-lo-clause-value
 returns-in_err-lo-clause-value g c = none _ _ c.from_residual.ensures (size_none (g.S.Domains.table c.args.store.now c.args.x) (λ v h. c.in_err-lo.ensures.value v (value_low v h)))
-
-pub returns-in_err-hi-clause-value : goal.returns-in_err-hi-clause-value
-returns-in_err-hi-clause-value g c = none _ _ c.from_residual-in_err-hi.ensures (size_none (g.S.Domains.table c.args.store.now c.args.x) (λ v h. c.in_err-hi.ensures.value v (value_high v h)))
 
 pub returns : goal.returns
 returns g c =

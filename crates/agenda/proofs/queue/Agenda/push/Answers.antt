@@ -9,9 +9,9 @@ invariant_of-self c =
     let four : length s.waiting ≡ 4 = search rules in
     record {
       low = s.low;
-      few = push_few s.rules s.waiting s.first s.len c.args.rule full four s.apart s.tells c.requires.below c.requires.new c.end-at.result c.end-at.ensures;
-      apart = push_is_apart s.rules s.waiting s.first s.len c.args.rule full four s.apart s.tells c.requires.below c.requires.new c.end-at.result c.end-at.ensures;
-      tells = push_is_told s.rules s.waiting s.first s.len c.args.rule full four s.apart s.tells c.requires.below c.requires.new c.end-at.result c.end-at.ensures c.insert.new.set c.insert.ensures;
+      few = push_few s.rules s.waiting s.first s.len c.args.rule full four s.apart s.tells c.requires.below c.requires.new c.place-at.result c.place-at.ensures;
+      apart = push_is_apart s.rules s.waiting s.first s.len c.args.rule full four s.apart s.tells c.requires.below c.requires.new c.place-at.result c.place-at.ensures;
+      tells = push_is_told s.rules s.waiting s.first s.len c.args.rule full four s.apart s.tells c.requires.below c.requires.new c.place-at.result c.place-at.ensures c.insert.new.set c.insert.ensures;
     }
 
 pub returns : goal.returns
@@ -19,4 +19,4 @@ returns c =
     let s = c.args.self.now in
     let full : length s.rules ≡ 256 = search rules in
     let four : length s.waiting ≡ 4 = search rules in
-    push_is s.rules s.waiting s.first s.len c.args.rule full four s.apart s.tells c.requires.below c.requires.new c.end-at.result c.end-at.ensures
+    push_is s.rules s.waiting s.first s.len c.args.rule full four s.apart s.tells c.requires.below c.requires.new c.place-at.result c.place-at.ensures

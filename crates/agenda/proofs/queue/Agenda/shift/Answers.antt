@@ -8,14 +8,14 @@ invariant_of-self c =
     record {
       low = omega arith;
       few = omega arith;
-      apart = pop_is_apart s.rules s.waiting s.first s.len s.low c.requires.some s.apart s.tells c.second-self.result c.second-self.ensures;
-      tells = pop_is_told s.rules s.waiting s.first s.len s.low c.requires.some s.apart s.tells c.second-self.result c.second-self.ensures c.others-others.result c.others-others.ensures;
+      apart = pop_is_apart s.rules s.waiting s.first s.len s.low c.requires.some s.apart s.tells c.place-self.result c.place-self.ensures;
+      tells = pop_is_told s.rules s.waiting s.first s.len s.low c.requires.some s.apart s.tells c.place-self.result c.place-self.ensures c.others-others.result c.others-others.ensures;
     }
 
 pub returns : goal.returns
 returns c =
     let s = c.args.self.now in
     record {
-      first = pop_is s.rules s.waiting s.first s.len s.low c.requires.some s.apart s.tells c.second-self.result c.second-self.ensures;
+      first = pop_is s.rules s.waiting s.first s.len s.low c.requires.some s.apart s.tells c.place-self.result c.place-self.ensures;
       below = search rules;
     }
