@@ -2,7 +2,7 @@
 ghost use Rattle.std.specs.Prelude.{◌≤◌, length};
 ghost use Rattle.copying.specs.Memory.{need};
 
-// The table in the first 16 * n words, and the saved ones behind it, the oldest first.
+// The table in the first 16 * n words, and the saved ones behind it, the oldest first. Not compared: words behind the newest are no part of it.
 #[derive(Drop)]
 pub struct Copying<'a> {
     pub(crate) words: &'a mut [u64],
