@@ -1,7 +1,8 @@
 // A bank of rules of one kind, in a list that the caller lends.
-ghost use Rattle.std.specs.Prelude.{◌≡◌, map};
+ghost use Rattle.std.specs.Prelude.{◌≡◌, ◌≤◌, map};
 ghost use Rattle.std.specs.Option.{option_copied};
-ghost use Rattle.rules.specs.Banks.{called};
+ghost use Rattle.rules.specs.Rules.{Rule};
+ghost use Rattle.rules.specs.Banks.{count_of, called};
 ghost use Rattle.filters.specs.Listed.{rule_by};
 ghost use Rattle.filters.specs.Facts.{listed_lawful};
 
@@ -9,6 +10,31 @@ use crate::kind::Kind;
 use crate::listed::Listed;
 use rules::{Bank, MOST, Ran, RuleFault, sets};
 use tables::Domains;
+
+// How many rules a list has, or 257 where there are more than 256.
+pub fn count<T>(rules: &[T]) -> usize
+    ensures value { (f : T → Rule) → result ≡ count_of (map f rules.now) }
+    ensures bound { result ≤ 257 }
+{
+    rules.len().min(MOST + 1)
+}
+
+// Where the rule of a number stands: nowhere past the last, and nowhere in a list of more than 256.
+fn find<T>(rules: &[T], rule: usize) -> Option<&T>
+    ensures { (f : T → Rule) → called (map f rules.now) rule ≡ rule_by f (option_copied result) }
+{
+    if rules.len() > MOST {
+        return None;
+    }
+    rules.get(rule)
+}
+
+// The rule of a number: none past the last, and none in a list of more than 256.
+pub fn item<T: Copy>(rules: &[T], rule: usize) -> Option<T>
+    ensures { (f : T → Rule) → called (map f rules.now) rule ≡ rule_by f result }
+{
+    find(rules, rule).copied()
+}
 
 impl<'a, T> Listed<'a, T> {
     // The bank of these rules, in their order.
@@ -24,10 +50,7 @@ impl<'a, T: Kind> Listed<'a, T> {
     fn find(&self, rule: usize) -> Option<&'a T>
         ensures { called (map T.Kind.meaning self.now.rules.now) rule ≡ rule_by T.Kind.meaning (option_copied result) }
     {
-        if self.rules.len() > MOST {
-            return None;
-        }
-        self.rules.get(rule)
+        find(self.rules, rule)
     }
 }
 
@@ -37,7 +60,7 @@ impl<'a, T: Kind> Bank for Listed<'a, T> {
     ghost lawful = { λ b. listed_lawful T.Kind.meaning T.Kind.lawful b.rules.now };
 
     fn rules(&self) -> usize {
-        self.rules.len().min(MOST + 1)
+        count(self.rules)
     }
 
     fn fit(&self, rule: usize, n: usize) -> Result<(), RuleFault> {
