@@ -14,7 +14,7 @@ pub use store::Copying;
 use tables::{Domains, Kept, Levels, Row, StoreFault, rows};
 
 impl<'a> Copying<'a> {
-    // Whether a store of n variables and at most `most` saved tables can be made in these words.
+    // Whether a store of n variables and at most `most` saved tables can be made in these words: three things that a caller has apart.
     pub fn check(words: &[u64], n: usize, most: usize) -> Result<(), StoreFault>
         ensures { result ≡ answer_check n most (length words.now) }
     {

@@ -1,19 +1,13 @@
 -- From the first and the last place of a row to the next and the last value of its domain.
-use Rattle.std.proofs.Common.{◌≡◌, ℕ, ◌<◌, ◌≤◌, true, ltb, List, ℤ, pos, ◌+ℤ◌, Some, None, Option, ◌∙◌, arith, w32, to_z, of_z}
+use Rattle.std.proofs.Common.{◌≡◌, ℕ, ◌<◌, ◌≤◌, true, ltb, List, ℤ, Some, None, Option, ◌∙◌, arith}
 use lib.Signed.{le_z, lt_z}
-use mir.Val.{SFits}
-use Rattle.std.specs.Int.{saturate_signed}
 use Rattle.std.specs.Option.{option_map}
-use Rattle.std.proofs.lemmas.Int.{ints, to_z-of_z}
+use Rattle.std.proofs.lemmas.Int.{ints}
 use Rattle.std.proofs.lemmas.Bool.{and_parts}
 use Rattle.tables.specs.Values.{is_value, place, value_at}
 use Rattle.tables.specs.Rows.{at_place, in_row, First, Final}
 use Rattle.tables.specs.Tables.{Next, Last}
 use Rattle.tables.proofs.Places.{is_value_at, place_at, in_row_at, place_is}
-
--- The places below the next number are those at or below the number itself, also where there is no next one.
-pub upto_next : (hi next : ℤ) (n : ℕ) → SFits w32 hi → next ≡ saturate_signed w32 (to_z w32 (of_z w32 hi) +ℤ pos 1) → ((u : ℤ) → is_value u ≡ true → ltb (place u) n ≡ lt_z u (to_z w32 (of_z w32 next))) → (u : ℤ) → is_value u ≡ true → ltb (place u) n ≡ le_z u hi
-upto_next hi next n fits e below u h = let b = below u h in grind (arith, ints, to_z-of_z)
 
 module _ (row : List ℕ) (bound : ℤ) (s : ℕ) where
   -- what the first place says of the next value

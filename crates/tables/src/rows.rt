@@ -112,13 +112,20 @@ fn places_below(v: i32) -> usize
     (v.clamp(-512, 512) + 512) as usize
 }
 
+// How many places lie at or below a number: those below the next one, since past the greatest number there is no value.
+fn places_upto(v: i32) -> usize
+    ensures small { result ≤ 1024 }
+    ensures tells { (u : ℤ) → is_value u ≡ true → nat_lt (place u) result ≡ int_le u v }
+{
+    places_below(v.saturating_add(1))
+}
+
 // The values from `lo` to `hi`, of which there are none where `lo` is the greater.
 pub fn interval(lo: i32, hi: i32) -> Row
     ensures { (v : ℤ) → in_row result v ≡ (is_value v && (int_le lo v && int_le v hi)) }
 {
     let start = places_below(lo);
-    // The places at or below `hi` are those below the next number; past the greatest there is no value.
-    let end = places_below(hi.saturating_add(1));
+    let end = places_upto(hi);
     std::array::from_fn(|j| {
         let first = 64 * j;
         low_bits(end.saturating_sub(first)) & !low_bits(start.saturating_sub(first))
@@ -133,23 +140,31 @@ pub fn size(row: &[u64]) -> usize
     row.iter().take(16).map(|w| w.count_ones() as usize).sum()
 }
 
-// The lowest set bit of a word at or above `from`.
-fn next_bit(word: u64, from: usize) -> Option<usize>
-    ensures { First (bit word) from 64 result }
+// The lowest set bit of a word.
+fn lowest_bit(word: u64) -> Option<usize>
+    ensures { First (bit word) 0 64 result }
 {
-    let rest = word & !low_bits(from);
-    (rest != 0).then(|| rest.trailing_zeros() as usize)
+    (word != 0).then(|| word.trailing_zeros() as usize)
 }
 
-// The first place at or above `from` whose bit is set.
+// The first place whose bit is set, from word `start` on; only sixteen words are looked at.
+fn first_place(row: &[u64], start: usize) -> Option<usize>
+    ensures { First (at_place row.now) (64 * start) 1024 result }
+{
+    (start..row.len().min(16)).find_map(|j| lowest_bit(row[j]).map(|k| 64 * j + k))
+}
+
+// The first place at or above `from` whose bit is set. Words before that in which `from` lies are not looked at, and it alone is shifted.
 pub fn next_place(row: &[u64], from: usize) -> Option<usize>
     ensures { First (at_place row.now) from 1024 result }
 {
-    // Only sixteen words are looked at, and none before that in which `from` lies.
-    row.iter().enumerate().take(16).skip(from / 64).find_map(|(j, word)| {
-        let first = 64 * j;
-        next_bit(*word, from.saturating_sub(first)).map(|k| first + k)
-    })
+    let start = from / 64;
+    if start >= row.len().min(16) {
+        return None;
+    }
+    lowest_bit(row[start] >> (from % 64))
+        .map(|k| from + k)
+        .or_else(|| first_place(row, start + 1))
 }
 
 // The next value of the words at or above a number.
@@ -173,8 +188,8 @@ fn last_place(row: &[u64], end: usize) -> Option<usize>
     requires within { end ≤ 1024 }
     ensures { Final (at_place row.now) end result }
 {
-    // No place of a word past that in which `end` lies is below `end`.
-    row[..row.len().min(end / 64 + 1)]
+    // Only sixteen words are looked at, and no place of a word past that in which `end` lies is below `end`.
+    row[..row.len().min(16).min(end / 64 + 1)]
         .iter()
         .enumerate()
         .rev()
@@ -189,5 +204,5 @@ pub fn last(row: &[u64], upto: i32) -> Option<i32>
     ensures value { Last (in_row row.now) upto result }
     ensures bounds { IfSome result (λ v. (negsuc 511 ≤ℤ v) × (v ≤ℤ pos 511)) }
 {
-    last_place(row, places_below(upto.saturating_add(1))).map(|p| p as i32 - 512)
+    last_place(row, places_upto(upto)).map(|p| p as i32 - 512)
 }

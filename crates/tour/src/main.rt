@@ -136,7 +136,7 @@ impl<'s, S: Domains> fmt::Display for Left<'s, S> {
     }
 }
 
-// Prints every variable.
+// Prints every variable, by a `for`, since each line that is printed may fail.
 fn show_all<S: Domains>(rt: &HostRuntime, store: &S) -> io::Result<()> {
     for x in 0..store.variables() {
         println!(rt; "{}", Left { store, x })?;
@@ -177,6 +177,7 @@ fn main(rt: HostRuntime) -> io::Result<()> {
         first: Offsets::new(&SIZES),
         second: Offsets::new(&FITTINGS),
     };
+    // One line or another: no plainer by the methods of a result.
     match Session::check(&store, &bank) {
         Ok(()) => println!(&rt; "begin: ok")?,
         Err(fault) => println!(&rt; "begin: refused {}", fault.number())?,

@@ -5,7 +5,6 @@ use Rattle.std.proofs.lemmas.Bool.Decides.{nat_tests}
 use Rattle.tables.specs.Rows.{bit}
 use Rattle.tables.proofs.Words.{and_bits, bit_not}
 use Rattle.tables.proofs.Places.{row_by_words}
-use Rattle.tables.proofs.Ends.{upto_next}
 use Rattle.tables.proofs.Made.{made_at}
 use Rattle.tables.proofs.rows.interval.Goals as goal
 
@@ -26,10 +25,11 @@ word j s e y w k h =
 pub returns : goal.returns
 returns c v =
     let s : ℕ = c.places_below-start.result in
-    let e : ℕ = c.places_below-end.result in
+    let e : ℕ = c.places_upto-end.result in
     let lo = c.ranges.lo in
+    let hi = c.ranges.hi in
     let above = simp to_z-of_z at c.places_below-start.ensures.tells v in
-    let below = upto_next c.args.hi _ e c.ranges.hi c.saturating_add.ensures c.places_below-end.ensures.tells v in
+    let below = simp to_z-of_z at c.places_upto-end.ensures.tells v in
     row_by_words c.from_fn.result (λ p. ltb p e && not (ltb p s))
     (made_at _ (λ j w. (k : ℕ) → k < 64 → bit w k ≡ (ltb (64 * j + k) e && not (ltb (64 * j + k) s))) _ _ 0 (λ j y q r. (search rules, word j s e y (search rules))) 16 c.from_fn.ensures.items)
     v
