@@ -1,9 +1,9 @@
 // The bank of the rules x = y + c, filtered by values.
 #![tactic(auto)]
 
-ghost use Rattle.std.specs.Prelude.{◌≡◌, true, ◌&&◌, ℤ, ◌+ℤ◌, ◌-ℤ◌, Ok};
+ghost use Rattle.std.specs.Prelude.{◌≡◌, ℕ, true, ◌&&◌, ◌||◌, ℤ, ◌+ℤ◌, ◌-ℤ◌, Ok, ◌==◌, nat_lt};
 ghost use Rattle.tables.specs.Rows.{in_row};
-ghost use Rattle.rules.specs.Banks.{Run};
+ghost use Rattle.rules.specs.Banks.{in_set, Run};
 ghost use Rattle.offsets.specs.Offsets.{in_reach, offset};
 ghost use Rattle.offsets.specs.Facts.{fits_lawful};
 
@@ -13,7 +13,8 @@ pub mod rule;
 use both::Both;
 use filters::{Kind, Listed};
 pub use rule::Offset;
-use rules::{Ran, RuleFault, sets};
+use rules::sets::Set;
+use rules::{Failed, Ran, RuleFault, sets};
 use tables::{Domains, rows};
 
 // A bank of these rules, in a list that the caller lends.
@@ -37,6 +38,20 @@ fn matched<S: Domains>(store: &S, o: Offset) -> Both
     Both { x, y }
 }
 
+// The set of what got smaller, by what the two keeps said.
+fn smaller(o: Offset, at_x: bool, at_y: bool) -> Set
+    ensures { (z : ℕ) → in_set result z ≡ ((at_x && (z == o.x && nat_lt o.x 256)) || (at_y && (z == o.y && nat_lt o.y 256))) }
+{
+    let mut set = sets::none();
+    if at_x {
+        sets::insert(&mut set, o.x);
+    }
+    if at_y {
+        sets::insert(&mut set, o.y);
+    }
+    set
+}
+
 // Runs a rule that fits, by the values that have a partner: x keeps those that lie c above one of y, and y those that lie c below one of x.
 fn narrow<S: Domains>(store: &mut S, o: Offset, left: Both) -> Ran
     requires fits { (offset o).fit (S.Domains.frame store.old).vars ≡ Ok tt }
@@ -46,10 +61,15 @@ fn narrow<S: Domains>(store: &mut S, o: Offset, left: Both) -> Ran
     ensures same_saved { S.Domains.saved store.new ≡ S.Domains.saved store.old }
     ensures same_frame { S.Domains.frame store.new ≡ S.Domains.frame store.old }
 {
-    let mut smaller = sets::none();
-    filters::narrow(store, o.x, left.x, &mut smaller)?;
-    filters::narrow(store, o.y, left.y, &mut smaller)?;
-    Ok(smaller)
+    let at_x = store.keep(o.x, left.x);
+    if at_x.empty {
+        return Err(Failed);
+    }
+    let at_y = store.keep(o.y, left.y);
+    if at_y.empty {
+        return Err(Failed);
+    }
+    Ok(smaller(o, at_x.smaller, at_y.smaller))
 }
 
 impl Kind for Offset {

@@ -9,4 +9,4 @@ pub returns-clause-row : goal.returns-clause-row
 returns-clause-row c =
     let fits = c.ranges.v in
     let lacks = simp to_z-of_z at c.without.ensures in
-    held (λ r. (u : ℤ) → in_row r u ≡ (is_value u && not (equal_int u c.args.v))) c.without.result (λ u. lacks u ∙ ap (λ (b : Bool). b && not (equal_int u c.args.v)) (c.all.ensures u)) c.is_value.result c.then_some.result c.then_some.ensures
+    held (λ r. (u : ℤ) → in_row r u ≡ (is_value u && not (equal_int u c.args.v))) c.without.result (λ u. lacks u ∙ ap (λ (b : Bool). b && not (equal_int u c.args.v)) (c.all.ensures u)) _ c.then_some.result c.then_some.ensures
