@@ -53,8 +53,11 @@ module _ (f : Frame) (rules : List Rule) (c : Call) (x : ℕ) (w : World) where
   abbrev pub bars : Option SessionFault
   bars = when (is_failed w.standing) fault.Failed (when (not (ltb x f.vars)) fault.Variable None)
 
+  pub order_barred : (rest : Option SessionFault) → refusal f.vars f.most w c ≡ when (is_failed w.standing) fault.Failed (when (not (ltb x f.vars)) fault.Variable rest) → (w' : World) (e : SessionFault) → Err e ≡ verdict bars → w' ≡ w → Steps f rules c (answer_of_order (Err e)) w w'
+  order_barred rest is w' e v same = refused (is ∙ barred (is_failed w.standing) (not (ltb x f.vars)) rest e v) same
+
   pub order_refused : (row : Option (List ℕ)) → IsOrder f.vars c x row w.table → (w' : World) (e : SessionFault) → Err e ≡ verdict bars → w' ≡ w → Steps f rules c (answer_of_order (Err e)) w w'
-  order_refused row is w' e v same = refused (is.refuses f.most w ∙ barred (is_failed w.standing) (not (ltb x f.vars)) _ e v) same
+  order_refused row is w' e v same = order_barred _ (is.refuses f.most w) w' e v same
 
   -- its numbers are not in order
   pub order_unfit : IsOrder f.vars c x None w.table → (w' : World) (u : Unit {0}) → Ok u ≡ verdict bars → w' ≡ w → Steps f rules c (answer_of_order (Err fault.Value)) w w'

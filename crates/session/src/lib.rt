@@ -53,7 +53,11 @@ fn all_but(v: i32) -> Option<Row>
     ensures there { is_some result ≡ is_value v }
     ensures row { IfSome result (λ r. (u : ℤ) → in_row r u ≡ (is_value u && not (equal_int u v))) }
 {
-    rows::is_value(v).then_some(rows::without(rows::all(), v))
+    rows::is_value(v).then(
+        || -> Row
+            ensures { (u : ℤ) → in_row result u ≡ (is_value u && not (equal_int u v)) }
+        { rows::without(rows::all(), v) },
+    )
 }
 
 // What an order to narrow to lo and hi keeps, if they are a range.
@@ -61,7 +65,11 @@ fn between(lo: i32, hi: i32) -> Option<Row>
     ensures there { is_some result ≡ (is_value lo && (is_value hi && int_le lo hi)) }
     ensures row { IfSome result (λ r. (u : ℤ) → in_row r u ≡ (is_value u && (int_le lo u && int_le u hi))) }
 {
-    is_range(lo, hi).then_some(rows::interval(lo, hi))
+    is_range(lo, hi).then(
+        || -> Row
+            ensures { (u : ℤ) → in_row result u ≡ (is_value u && (int_le lo u && int_le u hi)) }
+        { rows::interval(lo, hi) },
+    )
 }
 
 // What a call answered, or its refusal, as an answer of a history.
@@ -229,6 +237,8 @@ impl Session {
         ensures refused { OnErr result ((self.new ≡ self.old) × (store.new ≡ store.old)) }
         ensures same_frame { S.Domains.frame store.new ≡ S.Domains.frame store.old }
     {
+        // Asked here too, so that no row is made for an order that is refused.
+        self.admit(store.variables(), x)?;
         self.order(store, bank, x, all_but(v))
     }
 
@@ -246,6 +256,8 @@ impl Session {
         ensures refused { OnErr result ((self.new ≡ self.old) × (store.new ≡ store.old)) }
         ensures same_frame { S.Domains.frame store.new ≡ S.Domains.frame store.old }
     {
+        // As in `strike`.
+        self.admit(store.variables(), x)?;
         self.order(store, bank, x, between(lo, hi))
     }
 
